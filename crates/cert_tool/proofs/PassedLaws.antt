@@ -29,7 +29,8 @@ use Rattle.cert_tool.specs.Stops.{stop_under, unasked}
 abbrev shape : Shape
 shape = raw_certificate Bound
 
--- What is wrong at an offset is wrong at a later one; and the other way round, where a certificate of the limit could stand there.
+-- What is wrong at an offset is wrong at a later one; and the other way round, where a certificate
+-- of the limit could be there.
 module _ (limit small large : ℕ) (le : small ≤ large) where
   says_later : (kind : FaultKind) (rest : List ℕ) → Says shape limit small kind rest → Says shape limit large kind rest
   says_later kinds.TooLarge rest h = (h.0, h.1, h.2, h.3, elim h.4 [ inl x ↦ inl x | inr x ↦ inr (omega (arith, x, le)) ])
@@ -43,7 +44,7 @@ module _ (limit small large : ℕ) (le : small ≤ large) where
     none_later : (kind : FaultKind) (rest : List ℕ) → NoneBefore shape limit small kind rest → NoneBefore shape limit large kind rest
     none_later kind rest none = λ other h says. none other h (says_before other rest says)
 
--- What is read behind certificates is read with them.
+-- What is read after certificates is read with them.
 module _ (limit : ℕ) (cs vs : List PlainCertificate) (front : Series shape limit cs (joined Bound cs)) (tail : List ℕ) (room : length (joined Bound (cs ++ vs)) + limit < 2 ^ 64) where
   own : length (joined Bound vs) ≤ length (joined Bound (cs ++ vs))
   own = omega (arith, ap length (encodings-append shape cs vs), length-append (joined Bound cs) (joined Bound vs))
@@ -101,7 +102,7 @@ module _ (d : Device) (in_turn : (a b c : d.State) (first second : List ℕ) →
     once = f.once;
   }
 
--- So far a stream was read, and its certificates passed: behind them a bundle takes pieces.
+-- So far a stream was read, and its certificates passed: after them a bundle takes pieces.
 pub record SoFar (stream : Device) (limit : ℕ) (passed : Passed) (bundle : Kept) (tail : List ℕ) : Type 0 where
   pub certificates : List PlainCertificate
   pub octets : List ℕ

@@ -7,7 +7,7 @@ use Rattle.cert_tool_explain.specs.DeskIo.Frames.{frame, number_octets}
 use Rattle.cert_tool_explain.proofs.DeskIo.FrameLaws.{same_number}
 use Rattle.cert_tool.specs.Sending.{IsSent, here, behind}
 
--- frames with which the same octets begin have the same content
+-- frames with which the same bytes begin have the same content
 pub same_content : (a b x y : List ℕ) → length a < 2 ^ 32 → length b < 2 ^ 32 → frame a ++ x ≡ frame b ++ y → a ≡ b
 same_content a b x y small_a small_b whole =
     let number : number_octets (length a) ≡ number_octets (length b) = ap (take 4) whole in
@@ -15,18 +15,18 @@ same_content a b x y small_a small_b whole =
     let left : a ++ x ≡ b ++ y = ap (drop 4) whole in
     sym (take_at a x (length a) refl) ∙ ap (take (length a)) left ∙ take_at b y (length a) (sym len)
 
--- what stands behind them is the same
+-- what follows them is the same
 same_rest : (a b x y : List ℕ) → length a < 2 ^ 32 → length b < 2 ^ 32 → frame a ++ x ≡ frame b ++ y → x ≡ y
 same_rest a b x y small_a small_b whole =
     let same : a ≡ b = same_content a b x y small_a small_b whole in
     append_cancel_left a x y (ap (drop 4) whole ∙ ap (λ (z : List ℕ). z ++ y) (sym same))
 
--- octets that begin with no frame hold no input
+-- bytes that begin with no frame hold no input
 pub none_whole : (name octets parts : List ℕ) → ((content rest : List ℕ) → length content < 2 ^ 32 → parts ≡ frame content ++ rest → ⊥) → IsSent name octets parts → ⊥
 none_whole name octets parts bare (here _ rest short small is) = bare name (frame octets ++ rest) short is
 none_whole name octets parts bare (behind _ other more rest differs short small is sent) = bare other (frame more ++ rest) short is
 
--- nor do octets with no frame behind the first
+-- nor do bytes with no frame after the first
 pub none_behind : (name octets parts this left : List ℕ) → parts ≡ frame this ++ left → length this < 2 ^ 32 → ((content rest : List ℕ) → length content < 2 ^ 32 → left ≡ frame content ++ rest → ⊥) → IsSent name octets parts → ⊥
 none_behind name octets parts this left first short bare (here _ rest named small is) =
     bare octets rest small (same_rest this name left (frame octets ++ rest) short named (sym first ∙ is))
@@ -45,11 +45,11 @@ module _ (name parts this rest more others : List ℕ) (same : Bool) (first : pa
   differs : this ≡ name → ⊥
   differs e = false≢true (sym is ∙ decides.1 e)
 
-  -- the pair in front is of another name: what is sent behind it is sent
+  -- the pair in front is of another name: what is sent after it is sent
   pub passed : (octets : List ℕ) → IsSent name octets others → IsSent name octets parts
   passed octets sent = behind parts this more others differs short small (first ∙ ap (λ (x : List ℕ). frame this ++ x) second) sent
 
-  -- what is sent in all is sent behind it
+  -- what is sent in all is sent after it
   pub left_behind : (octets : List ℕ) → IsSent name octets parts → IsSent name octets others
   left_behind octets (here _ behind_it named fits begins) =
       absurd (differs (same_content this name rest (frame octets ++ behind_it) short named (sym first ∙ begins)))

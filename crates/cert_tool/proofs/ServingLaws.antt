@@ -1,4 +1,4 @@
--- Requests that are told apart, their words, and what was answered so far.
+-- Requests that are reported apart, their words, and what was returned so far.
 use Rattle.std.proofs.Common.{◌≡◌, ℕ, ◌<◌, ◌^◌, ◌≤◌, ◌⊎◌, inl, inr, Bool, true, false, List, ◌++◌, length, map, sym, ap, subst, ◌∙◌}
 use Rattle.std.proofs.lemmas.Bool.{false≢true}
 use Rattle.std.specs.Prelude.{IsUtf8}
@@ -14,7 +14,7 @@ use Rattle.cert_tool.proofs.ToldLaws.{any_map}
 use Rattle.cert_tool.specs.TaskRuns.{Clock, IsObeyed, asks_of_program}
 use Rattle.cert_tool.specs.Serving.{AreReplies, ComesTo, HasNoReply, IsNextServed, IsRequest, more, words_in}
 
--- octets whose text isn't UTF-8 are no request
+-- bytes whose text isn't UTF-8 aren't a request
 pub no_request : (octets text parts : List ℕ) → octets ≡ frame text ++ parts → length text < 2 ^ 32 → (IsUtf8 text → ⊥) → (other : List ℕ) → (behind : List ℕ) → IsRequest octets other behind → ⊥
 no_request octets text parts begins short faulty other behind is =
     faulty (subst IsUtf8 (same_content other text behind parts is.1 short (sym is.0 ∙ begins)) is.2)
@@ -26,7 +26,7 @@ obeyed f tells i out err words text status are is =
     subst (λ (b : Bool). IsObeyed tells i out err (words_in text) b status) asks
     (subst (λ (ws : List (List ℕ)). IsObeyed tells i out err ws (list_any (λ word. asks_of_program (f word)) words) status) are is)
 
--- octets that come to outputs which aren't framed have no reply
+-- bytes that come to outputs which aren't framed have no reply
 pub no_reply : (tells : Clock) (octets : List ℕ) (status : ExitStatus) (output others : List ℕ) → ComesTo tells octets status output others → (error : FrameError) → ((error ≡ errors.TooLong) × ((2 ^ 32 ≤ length output) ⊎ (2 ^ 32 ≤ length others))) ⊎ (error ≡ errors.OutOfMemory) → HasNoReply tells octets error
 no_reply tells octets status output others comes error (inl is) = subst (HasNoReply tells octets) (sym is.0) (status, output, others, comes, is.1)
 no_reply tells octets status output others comes error (inr is) = subst (HasNoReply tells octets) (sym is) tt
@@ -36,7 +36,7 @@ module _ {S T : Type 0} (tells : Clock) (takes : S → List ℕ → S → Type 0
   abbrev pub SoFar : S → S → T → T → Type 0
   SoFar a b x y = (asked : List ℕ) × (answered : List ℕ) × AreReplies tells asked answered × takes a asked b × (failures b ≡ failures a) × gives x answered y × (lost y ≡ lost x)
 
-  -- the reply to a next frame behind those so far
+  -- the reply to a next frame after those so far
   pub one_more : ((a b c : S) (first second : List ℕ) → takes a first b → takes b second c → takes a (first ++ second) c) → ((a b c : T) (first second : List ℕ) → gives a first b → gives b second c → gives a (first ++ second) c)
       → (a b c : S) (x y z : T) (goes_on : Bool) → SoFar a b x y → IsNextServed tells (source takes is_ended failures b c) (sink gives lost y z) goes_on → goes_on ≡ true → SoFar a c x z
   one_more in_turn out_in_turn a b c x y z true so_far next is = (

@@ -1,4 +1,4 @@
--- Certificates, one after the other.
+-- Certificates, one after another.
 use Rattle.std.proofs.Common.{◌≡◌, ℕ, zero, suc, ◌+◌, ◌-◌, ◌<◌, List, [], ◌∷◌, ◌++◌, Some, drop, slice_get, unwrap_or, arith, ap, sym, ◌∙◌}
 use Rattle.cert_tool_explain.specs.DeskBundle.declared.entry.Entry.{Entry}
 use Rattle.cert_tool_explain.specs.Oid.Bound.{Bound}

@@ -1,4 +1,5 @@
--- What is told first of why a run ends, a text that goes out in two parts, and words that ask for it.
+-- What is reported first of why a run ends, a text that goes out in two parts, and words that ask
+-- for it.
 use Rattle.std.proofs.Common.{◌≡◌, ℕ, ◌+◌, ◌||◌, Bool, List, [], ◌∷◌, ◌++◌, length, map, take, Result, Ok, Err, OnErr, OnOk, inl, inr, refl, sym, ap, subst, arith, length-append}
 use Rattle.std.proofs.Math.Seq.{take-append-add}
 use Rattle.std.specs.List.{list_any}
@@ -21,7 +22,7 @@ pub OnErr-so : {T E : Type 0} (r : Result T E) (P Q : Type 0) → (P → Q) → 
 OnErr-so (Ok x) P Q so p = tt
 OnErr-so (Err e) P Q so p = so p
 
--- behind a text that went out another is cut
+-- after a text that went out another is cut
 pub second_cut : (out : Device) (in_turn : (a b c : out.State) (x y : List ℕ) → out.moves a x b → out.moves b y c → out.moves a (x ++ y) c) (first second : List ℕ) (end : out.State) → IsWritten out first
     → IsCut (record out { old = out.new; new = end }) second → IsCut (record out { new = end }) (first ++ second)
 second_cut out in_turn first second end written h = (

@@ -31,7 +31,7 @@ IsAsked anchors_in stream limit (Err outcome) =
     × FedWithin stream limit b
     × ((stop_of b ≡ Some outcome) ⊎ (outcome ≡ outcomes.OutOfMemory)))
 
--- What is told of it, and the status.
+-- What is reported of it, and the status.
 abbrev pub IsAskedTold : Device → Device → Result (List ℕ) Outcome → ExitStatus → Type 0
 IsAskedTold out err (Ok text) answer = IsAnswer out err text statuses.Done answer
 IsAskedTold out err (Err outcome) answer = Untouched out × IsStopTold err outcome answer

@@ -25,7 +25,7 @@ letter_text c = if is_plain c then c ∷ [] else letter_escape c
 unfoldable pub escaped_text : List ℕ → List ℕ
 escaped_text text = flat_map letter_text (chars text)
 
--- where a certificate stands in a stream, and whose it is, as an object
+-- where a certificate is in a stream, and whose it is, as an object
 abbrev pub place_object : ℕ → ℕ → ℕ → List ℕ → List ℕ
 place_object place offset len subject =
     codes "{\"place\":" ++ decimal place ++ codes ",\"offset\":" ++ decimal offset

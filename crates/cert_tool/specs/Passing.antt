@@ -16,7 +16,7 @@ use Rattle.cert_tool_explain.specs.DeskChecking.declared.outcome.Outcome.TheVari
 use Rattle.cert_tool.specs.declared.each_certificate.Passed.{Passed}
 use Rattle.cert_tool.specs.Stops.{FedWithin, stop_of, unasked}
 
--- calls moved some octets, and none failed
+-- calls moved some bytes, and none failed
 abbrev pub HasMoved : Device → Type 0
 HasMoved d = (octets : List ℕ) × Moved d octets × Sound d
 
@@ -44,13 +44,13 @@ pub record IsRead (stream : Device) (piece : List ℕ) : Type 0 where
   pub short : length piece ≤ 4096
   pub ended : piece ≡ [] → MetEnd stream
 
--- A bundle of this limit stands so, and has read these octets.
+-- A bundle of this limit stands so, and has read these bytes.
 pub record IsHeld (limit : ℕ) (b : Kept) (standing : Standing) (octets : List ℕ) : Type 0 where
   pub limit_is : b.limit ≡ limit
   pub standing_is : b.standing ≡ standing
   pub reads : Reads Bound b octets
 
--- How a bundle took a piece behind these octets, of which an empty one is the end; whether more may
+-- How a bundle took a piece after these bytes, of which an empty one is the end; whether more may
 -- follow.
 abbrev pub HasTaken : ℕ → Kept → List ℕ → List ℕ → Result Bool BundleError → Type 0
 HasTaken limit b octets piece (Ok true) = IsHeld limit b standings.Open (octets ++ piece)
@@ -61,13 +61,13 @@ HasTaken limit b octets piece (Err (errors.Fault place offset kind)) =
     × IsHeld limit b (standings.Faulted kind) (octets ++ piece)
 HasTaken limit b octets piece (Err _) = Unit {0}
 
--- These certificates were passed, and those of a bundle behind them. Another could be counted.
+-- These certificates were passed, and those of a bundle after them. Another could be counted.
 pub record IsBehind (old : Passed) (b : Kept) (new : Passed) : Type 0 where
   pub count_is : new.count ≡ old.count + length b.certificates
   pub octets_is : new.octets ≡ old.octets + length (joined Bound b.certificates)
   pub room : new.octets + b.limit < 2 ^ 64
 
--- what a stream comes to that a bundle refuses behind these certificates
+-- what a stream comes to that a bundle refuses after these certificates
 abbrev pub stop_behind : Passed → BundleError → Outcome
 stop_behind passed (errors.Fault place offset kind) =
     unasked (verdicts.StreamFault passed.count passed.octets kind)

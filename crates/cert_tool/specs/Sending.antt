@@ -4,8 +4,8 @@ use Rattle.cert_tool_explain.specs.DeskIo.declared.named_inputs.OpenError.{OpenE
 use Rattle.cert_tool_explain.specs.DeskIo.declared.named_inputs.OpenError.TheVariants as errors
 use Rattle.cert_tool_explain.specs.DeskIo.Frames.{frame}
 
--- In frames of names and of octets, in turn, these are the octets behind the first that is this
--- name. Each has fewer than 2^32.
+-- In frames of names and of bytes, in turn, these are the bytes after the first that is this name.
+-- Each has fewer than 2^32.
 pub data IsSent (name octets : List ℕ) : List ℕ → Type 0 where
   here : (parts rest : List ℕ) → length name < 2 ^ 32 → length octets < 2 ^ 32
       → parts ≡ frame name ++ (frame octets ++ rest) → IsSent name octets parts

@@ -20,11 +20,11 @@ use Rattle.cert_tool_explain.specs.DeskIo.Frames.{IsNext, IsUnread, frame}
 use Rattle.cert_tool.specs.TaskRuns.{Clock, IsObeyed, asks_of_program}
 use Rattle.cert_tool.specs.Sending.{IsNotSent, IsSent}
 
--- the most octets of a request, 64 MiB
+-- the most bytes of a request, 64 MiB
 abbrev pub request_limit : ℕ
 request_limit = 64 * 2 ^ 20
 
--- the inputs of which these are the names and the octets
+-- the inputs of which these are the names and the bytes
 abbrev pub sent_inputs : List ℕ → Inputs
 sent_inputs parts =
     inputs (λ a octets b. octets_left a ≡ octets ++ octets_left b) HasEnded read_failures
@@ -34,12 +34,12 @@ sent_inputs parts =
 abbrev pub words_in : List ℕ → List (List ℕ)
 words_in text = slice_split (λ octet. octet == 10) text
 
--- a request: a frame of a text in UTF-8, whose lines are words, and behind it inputs
+-- a request: a frame of a text in UTF-8, whose lines are words, and after it inputs
 abbrev pub IsRequest : List ℕ → List ℕ → List ℕ → Type 0
 IsRequest octets text parts =
     (octets ≡ frame text ++ parts) × (length text < 2 ^ 32) × IsUtf8 text
 
--- What becomes of octets: the words of this request are obeyed, on its inputs; or they are no
+-- What becomes of bytes: the words of this request are obeyed, on its inputs; or they aren't a
 -- request, and nothing is done.
 abbrev pub IsRequestObeyed : Clock → Device → Device → List ℕ → ExitStatus → Type 0
 IsRequestObeyed tells out err octets status =
@@ -60,7 +60,7 @@ abbrev pub vec_sink : VecOutput → VecOutput → Device
 vec_sink old new =
     sink (λ a octets b. vec_octets b ≡ vec_octets a ++ octets) write_failures old new
 
--- What octets come to, with outputs that are empty before: a status, what goes to the output, and
+-- What bytes come to, with outputs that are empty before: a status, what goes to the output, and
 -- what goes to the error output.
 pub record ComesTo (tells : Clock) (octets : List ℕ) (status : ExitStatus)
     (output errors : List ℕ) : Type 0 where
@@ -77,13 +77,13 @@ pub record ComesTo (tells : Clock) (octets : List ℕ) (status : ExitStatus)
 abbrev pub reply_frames : ExitStatus → List ℕ → List ℕ → List ℕ
 reply_frames status output errors = frame (code_of status ∷ []) ++ (frame output ++ frame errors)
 
--- the reply to octets
+-- the reply to bytes
 abbrev pub IsReply : Clock → List ℕ → List ℕ → Type 0
 IsReply tells octets reply =
     (status : ExitStatus) × (output : List ℕ) × (errors : List ℕ)
     × ComesTo tells octets status output errors × (reply ≡ reply_frames status output errors)
 
--- Why there is none: 2^32 octets or more went to an output, or there was no memory.
+-- Why there is none: 2^32 bytes or more went to an output, or there was no memory.
 abbrev pub HasNoReply : Clock → List ℕ → FrameError → Type 0
 HasNoReply tells octets errors.TooLong =
     (status : ExitStatus) × (output : List ℕ) × (errors : List ℕ)
@@ -100,7 +100,7 @@ IsNextServed tells input output true =
     × IsReply tells octets reply × IsWritten output reply
 IsNextServed tells input output false = IsNext input request_limit None × Untouched output
 
--- Why none did: the frame wasn't read, there is no reply, or a write failed.
+-- Why none did: the frame wasn't read, there isn't a reply, or a write failed.
 abbrev pub IsNextUnserved : Clock → Device → Device → FrameError → Type 0
 IsNextUnserved tells input output error =
     (IsUnread input request_limit error × Untouched output)
@@ -109,7 +109,7 @@ IsNextUnserved tells input output error =
     ⊎ ((octets : List ℕ) × (reply : List ℕ) × IsNext input request_limit (Some octets)
     × IsReply tells octets reply × IsCut output reply × (error ≡ errors.Device))
 
--- how that is told
+-- how that is reported
 abbrev pub IsUnservedTold : Device → FrameError → ExitStatus → Type 0
 IsUnservedTold err errors.TooLong status =
     IsComplaint err (codes "too long\n") statuses.Faulty status
@@ -117,14 +117,14 @@ IsUnservedTold err errors.Cut status = IsComplaint err (codes "cut\n") statuses.
 IsUnservedTold err errors.Device status = IsDeviceTold err status
 IsUnservedTold err errors.OutOfMemory status = IsMemoryTold err status
 
--- The first octets are frames, and the second the replies to what they hold, in turn.
+-- The first bytes are frames, and the second the replies to what they hold, in turn.
 pub data AreReplies (tells : Clock) : List ℕ → List ℕ → Type 0 where
   none : AreReplies tells [] []
   more : (asked replied octets reply : List ℕ) → AreReplies tells asked replied
       → IsReply tells octets reply → AreReplies tells (asked ++ frame octets) (replied ++ reply)
 
--- Replies to frames went out, in turn, until the input ended behind one; or until there was none
--- for a next one, and why is told.
+-- Replies to frames went out, in turn, until the input ended after one; or until there was none for
+-- a next one, and why is reported.
 abbrev pub IsServed : Clock → Device → Device → Device → ExitStatus → Type 0
 IsServed tells input output err status =
     (asked : List ℕ) × (replied : List ℕ) × AreReplies tells asked replied

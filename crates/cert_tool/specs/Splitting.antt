@@ -57,20 +57,20 @@ abbrev pub places_text : Bool → List PlainCertificate → List ℕ
 places_text true cs = json_places_below cs (length cs) ++ codes "]\n"
 places_text false cs = place_lines cs
 
--- the octets of the certificates, the last one first
+-- the bytes of the certificates, the last one first
 abbrev pub reversed : List PlainCertificate → List ℕ
 reversed [] = []
 reversed (c ∷ cs) = reversed cs ++ certificate_octets Bound c
 
 abbrev pub no_place_line : List ℕ
-no_place_line = codes "no certificate at that place\n"
+no_place_line = codes "no certificate has that index\n"
 
--- what ended the stream early is told, if it did
+-- what ended the stream early is reported, if it did
 abbrev pub IsEndTold : Device → Option Outcome → ExitStatus → Type 0
 IsEndTold err None answer = Untouched err × (answer ≡ statuses.Done)
 IsEndTold err (Some outcome) answer = IsStopTold err outcome answer
 
--- Where all certificates stand that were read goes out, and then what ended the stream is told.
+-- Where all certificates stand that were read goes out, and then what ended the stream is reported.
 abbrev pub IsListed : Bool → Device → Device → Kept → ExitStatus → Type 0
 IsListed json out err b answer =
     (Untouched out × IsMemoryTold err answer)
@@ -80,7 +80,7 @@ IsListed json out err b answer =
     × (((first ≢ statuses.Done) × (answer ≡ first) × Untouched (record err { old = between }))
     ⊎ ((first ≡ statuses.Done) × IsEndTold (record err { old = between }) (stop_of b) answer)))
 
--- The octets of this certificate go out; where there is none, what ended the stream is told, or
+-- The bytes of this certificate go out; where there is none, what ended the stream is reported, or
 -- that there is none.
 abbrev pub IsTakenAt : Device → Device → Option Outcome → Option PlainCertificate → ExitStatus
     → Type 0
@@ -95,8 +95,8 @@ abbrev pub IsTaken : Device → Device → Kept → ℕ → ExitStatus → Type 
 IsTaken out err b place answer = IsTakenAt out err (stop_of b) (slice_get b.certificates place)
     answer
 
--- The octets of these certificates go out, the last one first; where something ended the stream,
--- that is told in their place.
+-- The bytes of these certificates go out, the last one first; where something ended the stream,
+-- that is reported in their place.
 abbrev pub IsReversedBy : Device → Device → Option Outcome → List PlainCertificate → ExitStatus
     → Type 0
 IsReversedBy out err (Some outcome) cs answer = Untouched out × IsStopTold err outcome answer

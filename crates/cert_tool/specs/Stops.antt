@@ -1,4 +1,4 @@
--- What ends a run before what was asked for went out, and how it is told.
+-- What ends a run before what was asked for went out, and how it is reported.
 use Rattle.std.specs.Prelude.{◌≡◌, ℕ, ◌<◌, ◌⊎◌, List, [], ◌∷◌, length, Option, Some, None}
 use Rattle.cert_tool_explain.specs.DeskIo.declared.exit_status.ExitStatus.{ExitStatus}
 use Rattle.cert_tool_explain.specs.DeskIo.declared.exit_status.ExitStatus.TheVariants as statuses
@@ -22,7 +22,7 @@ use Rattle.cert_tool_explain.specs.DeskBundle.Streams.{Kept}
 abbrev pub unasked : Verdict → Outcome
 unasked verdict = outcomes.Checked (record { verdict = verdict; calls = 0 })
 
--- why certificates that were read so are no chain of one or more
+-- why certificates that were read so aren't a chain of one or more
 abbrev pub stop_under : Standing → List PlainCertificate → Option Outcome
 stop_under standings.Open cs = None
 stop_under standings.Ended [] = Some (unasked verdicts.Empty)
@@ -39,8 +39,8 @@ stop_of b = stop_under b.standing b.certificates
 abbrev pub FedWithin : Device → ℕ → Kept → Type 0
 FedWithin stream limit b = (b.limit ≡ limit) × IsFed stream b
 
--- What ended a run is told on the error output, and this is the status. Where there is no memory
--- for the line, this is told in its place.
+-- What ended a run is reported on the error output, and this is the status. Where memory runs out
+-- for the line, this is reported in its place.
 abbrev pub IsStopTold : Device → Outcome → ExitStatus → Type 0
 IsStopTold err (outcomes.Checked checked) answer =
     IsComplaint err (line_of checked.verdict checked.calls) (status_of checked.verdict) answer
@@ -54,7 +54,7 @@ IsStopTold err outcomes.OutOfMemory answer = IsMemoryTold err answer
 abbrev pub IsTried : Device → List ℕ → Type 0
 IsTried err text = IsWritten err text ⊎ IsCut err text
 
--- Some text that isn't empty is tried on the error output, before what else is told.
+-- Some text that isn't empty is tried on the error output, before what else is reported.
 abbrev pub IsReasonTold : Device → Type 0
 IsReasonTold err = (between : err.State) × (text : List ℕ) × (0 < length text)
     × IsTried (record err { new = between }) text

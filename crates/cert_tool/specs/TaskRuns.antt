@@ -49,7 +49,7 @@ abbrev pub IsUntimed : Clock → Moment → Type 0
 IsUntimed tells moments.Now = tells None
 IsUntimed tells (moments.Seconds n) = ⊥
 
--- an output until a state, behind which more may be told
+-- an output until a state, after which more may be told
 abbrev pub ToldFirst : Device → (Device → Type 0) → Type 0
 ToldFirst d Holds = (between : d.State) × Holds (record d { new = between })
 
@@ -57,8 +57,8 @@ ToldFirst d Holds = (between : d.State) × Holds (record d { new = between })
 abbrev pub ToldLast : Device → (Device → Type 0) → Type 0
 ToldLast d Holds = (between : d.State) × Holds (record d { old = between })
 
--- Of the inputs of these names, which are opened in turn, one isn't. That is told, and why gives
--- the status.
+-- Of the inputs of these names, which are opened in turn, one isn't. That is reported, and why
+-- gives the status.
 abbrev pub IsUnopened : Inputs → List (List ℕ) → Device → ExitStatus → Type 0
 IsUnopened i names err answer =
     (error : OpenError) × AreUnopened i names error × IsReasonTold err
@@ -74,12 +74,12 @@ OfFile i out err task answer Holds =
 abbrev pub judged_names : Task → List (List ℕ)
 judged_names task = task.answers.now ∷ task.anchors.now ∷ task.file.now ∷ []
 
--- how it is told that the present isn't had
+-- how it is reported that the present isn't had
 abbrev pub clock_line : List ℕ
 clock_line = codes "cannot read the clock\n"
 
 -- The seconds are had that are meant, and then the inputs of a chain that is judged are opened, and
--- of them this holds; or what isn't had is told, and ends the run.
+-- of them this holds; or what isn't had is reported, and ends the run.
 abbrev pub OfJudged : Clock → Inputs → Device → Device → Task → ExitStatus
     → (Device → Device → Device → ℕ → Type 0) → Type 0
 OfJudged tells i out err task answer Holds =
@@ -91,7 +91,7 @@ OfJudged tells i out err task answer Holds =
     × (answer ≡ statuses.Device))
 
 -- A chain is judged by answers: the answers are read, and the run is as `check` says under a judge
--- that says yes to these alone; or there are none, which is told.
+-- that says yes to these alone; or there are none, which is reported.
 abbrev pub IsJudged : Device → Device → Device → Device → Device → ℕ → List ℕ → ℕ → Bool
     → ExitStatus → Type 0
 IsJudged answers anchors stream out err moment purpose limit json answer =
@@ -149,13 +149,13 @@ IsEachDescribed i out err task answer =
     × IsPassed stream out task.limit ended
     × ToldFirst err (λ told. ToldLast told (λ last. IsEndTold last ended answer)))
 
--- The input of this name isn't read whole, which is told, or it isn't opened.
+-- The input of this name isn't read whole, which is reported, or it isn't opened.
 abbrev pub IsNotHad : Inputs → List ℕ → Device → ExitStatus → Type 0
 IsNotHad i name err answer =
     OfOpened i name (λ input. ToldFirst err (λ told. IsNotRead input told answer))
     ⊎ IsUnopened i (name ∷ []) err answer
 
--- A task's file is read whole, and then this holds of its octets and of the error output; or it
+-- A task's file is read whole, and then this holds of its bytes and of the error output; or it
 -- isn't had.
 abbrev pub OfWhole : Inputs → Device → Device → Task → ExitStatus → (List ℕ → Device → Type 0)
     → Type 0
@@ -198,7 +198,7 @@ asks_of_program word =
     || bytes_eq word (codes "--version"))
 
 -- What becomes of words: the program tells of itself where they ask for that; else the task is done
--- that they ask for, or it is told that something is wrong with them.
+-- that they ask for, or it is reported that something is wrong with them.
 abbrev pub IsObeyed : Clock → Inputs → Device → Device → List (List ℕ) → Bool
     → ExitStatus → Type 0
 IsObeyed tells i out err words of_program answer =

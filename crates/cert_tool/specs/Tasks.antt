@@ -58,7 +58,7 @@ of_words word kind =
     else if bytes_eq word (codes "explain") then of_explained kind
     else None
 
--- the command that the words between options name, and the file that stands behind it
+-- the command that the words between options name, and the file that follows it
 abbrev pub with_file : Option Command → List ℕ → Option (Command × List ℕ)
 with_file command file = option_map (λ c. (c, file)) command
 
@@ -101,7 +101,7 @@ describes (commands.Describe kind) = true
 describes commands.DescribeStream = true
 describes _ = false
 
--- what writes texts of its own, and not octets or lines that are read again
+-- what writes texts of its own, and not bytes or lines that are read again
 abbrev pub tells : Command → Bool
 tells commands.Questions = false
 tells commands.Reverse = false
@@ -184,11 +184,11 @@ IsPlace None None = Unit {0}
 IsPlace (Some n) (Some text) = IsNumber n text
 IsPlace _ _ = ⊥
 
--- the octets of one certificate have no form of JSON
+-- the bytes of one certificate have no form of JSON
 abbrev pub is_octets_in_json : PlainGiven → Bool
 is_octets_in_json g = is_some g.place && is_some g.json
 
--- standard input, which is no two files
+-- standard input, which isn't a two files
 abbrev pub is_standard : List ℕ → Bool
 is_standard name = bytes_eq name (codes "-")
 

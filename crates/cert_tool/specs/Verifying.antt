@@ -35,7 +35,7 @@ AreAnswers d (Err reasons.Device) = IsUnread d most_octets errors.Device
 AreAnswers d (Err reasons.OutOfMemory) = ((octets : List ℕ) × IsWhole d most_octets octets)
     ⊎ IsUnread d most_octets errors.OutOfMemory
 
--- how a line of this number is told that has this fault
+-- how a line of this number is reported that has this fault
 abbrev pub wrong_line : ℕ → LineFault → List ℕ
 wrong_line number fault =
     codes "answers: line " ++ decimal number ++ codes ": " ++ line_fault_text fault ++ codes "\n"
@@ -43,7 +43,7 @@ wrong_line number fault =
 abbrev pub too_much_line : List ℕ
 too_much_line = codes "answers: 2^32 octets or more\n"
 
--- What is told where there are no answers, and the status.
+-- What is reported where there aren't answers, and the status.
 abbrev pub IsNoneTold : Device → NoAnswers → ExitStatus → Type 0
 IsNoneTold err (reasons.Line number fault) answer =
     IsComplaint err (wrong_line number fault) statuses.Arguments answer ⊎ IsMemoryTold err answer
@@ -68,8 +68,8 @@ abbrev pub verdict_text : Bool → Verdict → ℕ → List ℕ
 verdict_text true verdict calls = verdict_json verdict calls
 verdict_text false verdict calls = line_of verdict calls
 
--- What is told of an outcome, and the status: the verdict on the output, anything else on the error
--- output. Where there is no memory for the text, this is told in its place.
+-- What is reported of an outcome, and the status: the verdict on the output, anything else on the
+-- error output. If memory runs out for the text, this is reported in its place.
 abbrev pub IsToldAs : Bool → Device → Device → Outcome → ExitStatus → Type 0
 IsToldAs json out err (outcomes.Checked checked) answer =
     IsAnswer out err (verdict_text json checked.verdict checked.calls) (status_of checked.verdict)

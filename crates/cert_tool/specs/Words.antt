@@ -1,4 +1,4 @@
--- The words behind the program's name: options, the value of each, and the words between them.
+-- The words after the program's name: options, the value of each, and the words between them.
 use Rattle.std.specs.Prelude.{ℕ, List, [], ◌∷◌, Bool, true, false, codes, bytes_eq, take, is_some}
 use Rattle.std.specs.Prelude.{◌==◌}
 use Rattle.std.specs.Prelude.{Option, Some, None, option_map, Result, Ok, Err, if◌then◌else◌}

@@ -29,13 +29,13 @@ pub struct Terms {
     pub moment: u64,
     /// What the chain is wanted for.
     pub purpose: ObjectIdentifier<39>,
-    /// The most octets that a certificate may have.
+    /// The most bytes that a certificate may have.
     pub limit: u32,
     /// Whether JSON is written.
     pub is_json: bool,
 }
 
-// The seconds of a moment that isn't `now`: a date, or a number of seconds.
+// Returns the seconds of a moment that isn't `now`: a date, or a number of seconds.
 #[tactic(auto, unfolding(crate::specs::Opened::IsNumber))]
 fn seconds_in(text: &str) -> Option<u64>
     ensures read { IfSome result (λ n. IsMoment (Moment.Seconds n) text.now) }
@@ -55,7 +55,7 @@ fn seconds_in(text: &str) -> Option<u64>
     Some(seconds)
 }
 
-// A moment: a number, a date, or `now`.
+// Returns a moment: a number, a date, or `now`.
 pub(crate) fn moment_in(text: &str) -> Option<Moment>
     ensures read { IfSome result (λ moment. IsMoment moment text.now) }
     ensures refused { IfNone result (IsNoMoment text.now) }
@@ -69,7 +69,7 @@ pub(crate) fn moment_in(text: &str) -> Option<Moment>
     Some(Moment::Seconds(seconds))
 }
 
-// The arcs that a name of a purpose stands for (RFC 5280 4.2.1.12), or the text itself.
+// Returns the arcs that a name of a purpose stands for (RFC 5280 4.2.1.12), or the text itself.
 fn arcs_of(text: &str) -> &str
     ensures { result.now ≡ arcs_of text.now }
 {
@@ -85,7 +85,7 @@ fn arcs_of(text: &str) -> &str
     }
 }
 
-// A purpose: a name, or an identifier in dotted arcs.
+// Returns a purpose: a name, or an identifier in dotted arcs.
 pub(crate) fn purpose_in(text: &str) -> Result<ObjectIdentifier<39>, Error>
     ensures { result ≡ read_text Bound max_size (arcs_of text.now) }
 {

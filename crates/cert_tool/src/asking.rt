@@ -11,7 +11,7 @@ use cert_tool_explain::desk_checking::{Outcome, chain_lines, read_anchors, read_
 use cert_tool_explain::desk_io::{ExitStatus, Input, Output, answer};
 use std::alloc::Global;
 
-// The questions of a stream under anchors.
+// Returns the questions of a stream under anchors.
 fn find_questions<A: Input, S: Input>(
     alloc: Global,
     anchors: &mut A,
@@ -39,17 +39,16 @@ fn find_questions<A: Input, S: Input>(
     }
 }
 
-/// Writes what the signatures of a chain may ask, a line each: `PLACE ANCHOR KEY ALGORITHM SIGNED
-/// BITS`.
+/// Writes what the signatures of a chain may ask, a line each:
+/// `PLACE ANCHOR KEY ALGORITHM SIGNED BITS`.
 ///
-/// The place, and the anchor's number where it is the first place, `-` after it, are in decimal
-/// and counted from 0. The others are in base 16, in small letters: the encodings of key and
-/// algorithm, the octets that are signed, and the encoding of the bits. For the first place each
-/// anchor of the issuer's name has a line, in their order; for another the key is that of the
-/// certificate before.
+/// The place, and the anchor's number where it is the first place, `-` after it, are in decimal and
+/// counted from 0. The others are in base 16, in small letters: the encodings of key and algorithm,
+/// the bytes that are signed, and the encoding of the bits. For the first place each anchor of the
+/// issuer's name has a line, in their order; for another the key is that of the certificate before.
 ///
-/// A stream that isn't certificates, an empty one and faulty anchors are told on the error output,
-/// as a check tells them.
+/// A stream that isn't certificates, an empty one and faulty anchors are reported on the error
+/// output, as a check tells them.
 pub fn run_questions<A: Input, S: Input, O: Output, E: Output>(
     alloc: Global,
     anchors: &mut A,
@@ -59,7 +58,7 @@ pub fn run_questions<A: Input, S: Input, O: Output, E: Output>(
     limit: u32,
 ) -> ExitStatus
     requires { 6 ≤ limit }
-    // What is told, and the status, are those of what is found in the octets that were taken.
+    // What is reported, and the status, are those of what is found in the bytes that were taken.
     ensures told { (found : Result (List ℕ) Outcome)
         × IsAsked (source A.takes A.is_ended A.failures anchors.old anchors.new)
         (source S.takes S.is_ended S.failures stream.old stream.new) limit found

@@ -19,7 +19,7 @@ use crate::verifying::{Opened, run_verify};
 use cert_tool_explain::desk_io::{ExitStatus, Input, NamedInputs, Output, write_all};
 use std::alloc::Global;
 
-// The seconds that are meant, if the clock tells the present.
+// Returns the seconds that are meant, if the clock tells the present.
 fn seconds_of<C: UnixClock>(clock: &C, moment: Moment) -> Option<u64>
     ensures meant { IfSome result (IsMeant (C.tells clock.now) moment) }
     ensures untimed { IfNone result (IsUntimed (C.tells clock.now) moment) }

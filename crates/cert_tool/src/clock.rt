@@ -9,8 +9,8 @@ pub trait UnixClock {
     /// The clock told these seconds since 1970-01-01T00:00:00Z, or none.
     ghost tells: { Self → Option ℕ → Type 0 };
 
-    /// The seconds since 1970-01-01T00:00:00Z, or `None` where the clock can't be read or shows a
-    /// time before that.
+    /// Returns the seconds since 1970-01-01T00:00:00Z, or `None` if the clock can't be read or
+    /// shows a time before that.
     fn seconds(&self) -> Option<u64>
         ensures told { tells self.now result };
 }
@@ -22,7 +22,7 @@ pub struct HostClock<'a> {
 }
 
 impl<'a> HostClock<'a> {
-    /// The clock of this system.
+    /// Returns the clock of this system.
     pub fn new(rt: &'a HostRuntime) -> HostClock<'a> {
         HostClock { rt }
     }

@@ -19,7 +19,7 @@ use cert_tool_explain::tool_describe::add_certificate;
 use cert_tool_explain::tool_lines::Lines;
 use std::alloc::{AllocError, Global};
 
-// The certificates of a stream that were described: how many, and how many octets they have.
+// The certificates of a stream that were described: how many, and how many bytes they have.
 #[derive(Clone, Copy)]
 struct Passed {
     count: usize,
@@ -27,7 +27,7 @@ struct Passed {
 }
 
 impl Passed {
-    // With those of a bundle behind them, if so many can be counted, and one more.
+    // With those of a bundle after them, if so many can be counted, and one more.
     fn with(self, bundle: &Bundle) -> Option<Passed>
         ensures { IfSome result (λ next. IsBehind self bundle.now next) }
     {
@@ -43,7 +43,7 @@ impl Passed {
         Some(Passed { count, octets })
     }
 
-    // What ended early a stream that ends behind them: that there is none.
+    // Returns what ended early a stream that ends after them: that there is none.
     fn end(self) -> Option<Outcome>
         ensures none { self.count ≡ 0 → result ≡ Some (unasked Verdict.Empty) }
         ensures some { 0 < self.count → result ≡ None }
@@ -54,7 +54,7 @@ impl Passed {
         Some(told(Verdict::Empty))
     }
 
-    // What a stream comes to that a bundle refuses behind them.
+    // Returns what a stream comes to that a bundle refuses after them.
     fn stop(self, error: BundleError) -> Outcome
         ensures { result ≡ stop_behind self error }
     {
@@ -69,7 +69,7 @@ impl Passed {
     }
 }
 
-// What is told of a stream of which nothing was asked.
+// Returns what is reported of a stream of which nothing was asked.
 fn told(verdict: Verdict) -> Outcome
     ensures { result ≡ unasked verdict }
 {
@@ -86,11 +86,11 @@ pub(crate) struct Form {
     pub(crate) is_watched: bool,
 }
 
-// After how many certificates that line is told again.
+// After how many certificates that line is reported again.
 const STEP: usize = 1000;
 
 impl Form {
-    // What is written of the certificate at a place, which begins at an octet of the stream.
+    // Returns what is written of the certificate at a place, which begins at a byte of the stream.
     fn block(&self, place: usize, octet: u64, octets: &[u8]) -> Result<Vec<u8>, AllocError> {
         let mut lines = Lines::new(self.alloc, self.is_json);
         lines.has_digests = self.has_digests;
@@ -112,7 +112,7 @@ impl Form {
         lines.finish()
     }
 
-    // Adds what is written of the certificates of a bundle, in front of which these stand.
+    // Adds what is written of the certificates of a bundle, before which these stand.
     fn add_blocks(
         &self,
         text: &mut Vec<u8>,
@@ -142,7 +142,7 @@ impl Form {
         count
     }
 
-    // Erases what stands there of the last count (ECMA-48 8.3.41).
+    // Erases what is there of the last count (ECMA-48 8.3.41).
     fn erase_count<E: Output>(&self, err: &mut E) {
         if self.is_watched {
             let _ = write_all(err, b"\x1b[K");
@@ -150,7 +150,7 @@ impl Form {
     }
 }
 
-// What was read of a stream behind the certificates that are forgotten: these octets, of which a
+// What was read of a stream after the certificates that are forgotten: these bytes, of which a
 // bundle has the certificates.
 #[derive(Drop)]
 struct Ahead {
@@ -234,8 +234,8 @@ impl Ahead {
     }
 }
 
-// Writes what is written of the certificates of a bundle, in front of which these stand, and
-// answers which stand in front of the next.
+// Writes what is written of the certificates of a bundle, before which these stand, and answers
+// which come before the next.
 fn write_blocks<O: Output>(
     form: &Form,
     bundle: &Bundle,
@@ -260,7 +260,7 @@ fn write_blocks<O: Output>(
     Ok(next)
 }
 
-// Writes what each certificate of a stream says, in turn, and forgets it, behind what was read of
+// Writes what each certificate of a stream says, in turn, and forgets it, after what was read of
 // it. Answers what ended the stream early, if something did.
 fn write_each<S: Input, O: Output, E: Output>(
     form: &Form,
@@ -281,7 +281,7 @@ fn write_each<S: Input, O: Output, E: Output>(
         octets: 0,
     };
     let mut counted = 0;
-    // Each piece has an octet or more, and of so many no more can be counted.
+    // Each piece has a byte or more, and of so many no more can be counted.
     'pieces: for _ in 0..u64::MAX {
         let Some(fed) = ahead.feed(stream) else {
             return Some(Outcome::Device);

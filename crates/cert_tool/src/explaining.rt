@@ -1,4 +1,4 @@
-//! Why chains are refused.
+//! Why chains are rejected.
 
 ghost use Rattle.std.specs.Prelude.{◌≤◌, length};
 ghost use Rattle.cert_tool_explain.specs.DeskIo.Devices.{sink, source};
@@ -20,7 +20,7 @@ use cert_tool_explain::tool_lines::Lines;
 use cert_tool_explain::{Heard, Judged, add_chain};
 use std::alloc::{AllocError, Global};
 
-// What each certificate of a chain breaks, as it was judged.
+// Returns what each certificate of a chain breaks, as it was judged.
 fn told(
     alloc: Global,
     bundle: &Bundle,
@@ -34,7 +34,7 @@ fn told(
     lines.finish()
 }
 
-// Which rules each certificate of a chain keeps, judged by answers under anchors.
+// Returns which rules each certificate of a chain keeps, judged by answers under anchors.
 fn kept_by(
     alloc: Global,
     bundle: &Bundle,
@@ -53,8 +53,8 @@ fn kept_by(
     )
 }
 
-// What each certificate of a chain breaks, judged by answers under anchors, which were read of the
-// octets behind them.
+// Returns what each certificate of a chain breaks, judged by answers under anchors, which were read
+// of the bytes after them.
 fn explained(
     alloc: Global,
     bundle: &Bundle,
@@ -75,7 +75,7 @@ fn explained(
     told(alloc, bundle, &judged, terms.is_json)
 }
 
-// Tells why there is no chain to explain, and answers the status.
+// Tells why there isn't a chain to explain, and answers the status.
 fn tell_no_chain<E: Output>(err: &mut E, outcome: Outcome) -> ExitStatus
     ensures { IsStopSaid (sink E.gives E.failures err.old err.new) outcome result }
 {
@@ -83,13 +83,13 @@ fn tell_no_chain<E: Output>(err: &mut E, outcome: Outcome) -> ExitStatus
         Outcome::Checked(checked) => {
             let line = match checked.verdict {
                 Verdict::Empty => "the stream is empty\n",
-                _ => "the stream can't be read: `cert_tool explain stream` says why\n",
+                _ => "the stream can't be decoded: `cert_tool explain stream` prints why\n",
             };
             complain(err, line.as_bytes(), status_of(checked.verdict))
         }
         Outcome::BadAnchors { .. } => complain(
             err,
-            b"the anchors can't be read: `cert_tool explain anchors` says why\n",
+            b"the trust anchors can't be decoded: `cert_tool explain anchors` prints why\n",
             ExitStatus::Arguments,
         ),
         Outcome::Device => tell_device(err),
@@ -97,7 +97,7 @@ fn tell_no_chain<E: Output>(err: &mut E, outcome: Outcome) -> ExitStatus
     }
 }
 
-// Explains the chain that an input gives, under anchors that were read of these octets, by answers.
+// Explains the chain that an input gives, under anchors that were read of these bytes, by answers.
 fn explain_stream_of<I: Input, O: Output, E: Output>(
     alloc: Global,
     answers: Vec<Answer>,
@@ -123,7 +123,7 @@ fn explain_stream_of<I: Input, O: Output, E: Output>(
     }
 }
 
-// Explains a chain under the anchors that octets give, by answers.
+// Explains a chain under the anchors that bytes give, by answers.
 fn explain_under<I: Input, O: Output, E: Output>(
     alloc: Global,
     answers: Vec<Answer>,
@@ -178,9 +178,9 @@ fn explain_by<I: Input, O: Output, E: Output>(
 
 // Explains a chain under anchors, of which the answers of an input say which signatures are right:
 // writes to `out` what each certificate breaks, with its first reason, and answers the exit status.
-// The rules have the names that a check prints. What no rule forbids and is unwise is told as a
-// remark: dates behind the issuer's, a serial number that an earlier one of the same issuer has,
-// and what must be otherwise by RFC 5280. First stands what an anchor of the chain's name says that
+// The rules have the names that a check prints. What no rule forbids and is unwise is reported as a
+// remark: dates after the issuer's, a serial number that an earlier one of the same issuer has, and
+// what must be otherwise by RFC 5280. First stands what an anchor of the chain's name says that
 // isn't judged.
 //
 // The answers are read first, and told as `run_verify` tells them where there are none.

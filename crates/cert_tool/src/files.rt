@@ -9,7 +9,8 @@ use crate::telling::{line_with, tell};
 use cert_tool_explain::desk_io::{ExitStatus, NamedInputs, OpenError, Output, tell_memory};
 use std::alloc::Global;
 
-// Opens the input of a name. Where it can't be opened that is told, and the status is the error.
+// Opens the input of a name. Where it can't be opened that is reported, and the status is the
+// error.
 pub(crate) fn open<I, F: NamedInputs<I>, E: Output>(
     alloc: Global,
     files: &F,

@@ -17,13 +17,13 @@ pub enum Key {
     At,
     /// `--purpose`, the key purpose: what a chain is wanted for.
     Purpose,
-    /// `--limit`, the most octets of a certificate.
+    /// `--limit`, the most bytes of a certificate.
     Limit,
     /// `--place`, of one certificate.
     Place,
     /// `--json`, the form of what is written; it has no value.
     Json,
-    /// `--digests`, which are told too; it has no value.
+    /// `--digests`, which are reported too; it has no value.
     Digests,
 }
 
@@ -58,7 +58,7 @@ pub(crate) struct Given<'a> {
     awaited: Option<Key>,
 }
 
-// The option that a word is.
+// Returns the option that a word is.
 fn key_of(word: &str) -> Option<Key>
     ensures { result ≡ key_of word.now }
 {
@@ -75,14 +75,14 @@ fn key_of(word: &str) -> Option<Key>
     }
 }
 
-// Whether an option has no value.
+// Returns whether an option has no value.
 fn stands_alone(key: Key) -> bool
     ensures { result ≡ stands_alone key }
 {
     matches!(key, Key::Json | Key::Digests)
 }
 
-// The option of a name, if it has a value.
+// Returns the option of a name, if it has a value.
 #[tactic(auto, unfolding(crate::specs::Words::valued_key))]
 fn valued_key(name: &str) -> Option<Key>
     ensures { result ≡ valued_key name.now }
@@ -96,8 +96,8 @@ fn valued_key(name: &str) -> Option<Key>
     Some(key)
 }
 
-// What stands in front of the first `=` of a word, and what stands behind it. Where there is none,
-// nothing stands behind it.
+// Returns what comes before the first `=` of a word, and what follows it. Where there is none,
+// nothing follows it.
 fn parts_of(word: &str) -> (&str, &str)
     ensures name { result.0.now ≡ before_first is_equals word.now }
     ensures value { result.1.now ≡ after_first is_equals word.now }
@@ -108,14 +108,14 @@ fn parts_of(word: &str) -> (&str, &str)
     }
 }
 
-// Whether a word begins as options do.
+// Returns whether a word begins as options do.
 fn is_option(word: &str) -> bool
     ensures { result ≡ is_option word.now }
 {
     word.starts_with("--")
 }
 
-// What no word gives.
+// Returns what no word gives.
 fn nothing_given<'a>() -> Given<'a>
     ensures { given_plain result ≡ nothing_given }
 {
@@ -136,7 +136,7 @@ fn nothing_given<'a>() -> Given<'a>
 }
 
 impl<'a> Given<'a> {
-    // The value of an option, if one is given.
+    // Returns the value of an option, if one is given.
     pub(crate) fn value_of(&self, key: Key) -> Option<&'a str>
         ensures { option_map (λ text. text.now) result ≡ value_of key (given_plain self.now) }
     {
@@ -242,7 +242,7 @@ impl<'a> Given<'a> {
     }
 }
 
-// What words give behind those that gave this.
+// Returns what words give after those that gave this.
 fn read_on<'a>(given: &Given<'a>, words: &[&'a str]) -> Result<Given<'a>, WordFault<'a>>
     ensures read { given_read result
         ≡ read_on (Ok (given_plain given.now)) (map (λ word. word.now) words.now) }
@@ -256,7 +256,7 @@ fn read_on<'a>(given: &Given<'a>, words: &[&'a str]) -> Result<Given<'a>, WordFa
     }
 }
 
-// What these words give.
+// Returns what these words give.
 #[tactic(auto, unfolding(crate::specs::Words::given_in))]
 pub(crate) fn given_in<'a>(words: &[&'a str]) -> Result<Given<'a>, WordFault<'a>>
     ensures read { given_read result ≡ given_in (map (λ word. word.now) words.now) }

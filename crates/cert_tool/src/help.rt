@@ -1,96 +1,104 @@
-//! What the program says of itself.
+//! The help texts and the version.
 
 ghost use Rattle.std.specs.Prelude.{◌≡◌, map, option_map};
 ghost use Rattle.cert_tool.specs.Help.{help_for, help_of};
 
-// Which program it is.
+// The answer to `--version`.
 pub(crate) const VERSION: &str = "cert_tool 1.0.0\n";
 
-// How the program is called.
+// The help for the program as a whole.
 const USAGE: &str = "usage: cert_tool COMMAND OPTIONS FILE, where COMMAND is one of
-  questions           what a verifier has to answer
-  verify              judge a chain by its answers
-  explain chain       which rules a chain breaks, and why
-  explain stream      why a file is no stream of certificates, and where
-  explain anchors     why anchors are refused, and what isn't judged of them
-  explain KIND        why octets are refused, and where, and what RFC 5280 says beyond that
-  describe KIND       what a file says
-  describe stream     what each certificate of a stream of any length says
-  split               where certificates stand, or one
-  reverse             certificates in the other order
-  serve               answer requests in frames of standard input
-cert_tool COMMAND --help tells more of a command, cert_tool --version which program this is.
+  questions           writes the signatures that a verifier has to verify
+  verify              validates a certificate chain with the verifier's answers
+  explain chain       prints which rules a chain breaks, and why
+  explain stream      prints why a file isn't a sequence of certificates, and where
+  explain anchors     prints why trust anchors are rejected, and what isn't checked of them
+  explain KIND        prints why a file is rejected, and where, and remarks by RFC 5280
+  describe KIND       prints what a file contains
+  describe stream     prints what each certificate of a stream of any length contains
+  split               prints where each certificate of a stream is, or extracts one
+  reverse             writes the certificates of a stream in reverse order
+  serve               answers requests that arrive in frames on standard input
+`cert_tool COMMAND --help` explains a command. `cert_tool --version` prints the version.
 ";
 
-// What is said of `questions`.
-const QUESTIONS: &str = "usage: cert_tool questions --anchors FILE [--limit OCTETS] STREAM
-Writes a line for each signature that judging the chain may need:
-PLACE ANCHOR KEY ALGORITHM SIGNED BITS, the last four in base 16.
-A verifier keeps the lines whose signature is right, as the script answer.py does. The lines it
-keeps are the answers of `verify`.
---anchors  a file of trust anchors: concatenated certificates
+// The help for `questions`.
+const QUESTIONS: &str = "usage: cert_tool questions --anchors FILE [--limit BYTES] STREAM
+Writes a line for each signature that validating the chain may need:
+PLACE ANCHOR KEY ALGORITHM SIGNED BITS, the last four in hex.
+A verifier, such as cert_tool_answer (examples/answer.py), keeps the lines whose signature is valid.
+The lines that it keeps are the answers for `verify`.
+--anchors  a file of trust anchors: certificates in DER, one after another
 ";
 
-// What is said of `verify`.
+// The help for `verify`.
 const VERIFY: &str = "usage: cert_tool verify --anchors FILE --answers FILE
-       [--at TIME] [--purpose PURPOSE] [--limit OCTETS] [--json] STREAM
-Judges the chain (certification path) in STREAM: yes to the signatures in the answers alone.
+       [--at TIME] [--purpose PURPOSE] [--limit BYTES] [--json] STREAM
+Validates the certificate chain in STREAM. A signature is valid if the answers contain its line.
+Host names, revocation, policies and name constraints aren't checked.
 Prints `trusted calls=N` (status 0), `refused PLACE RULE calls=N` (1), `fault PLACE OFFSET KIND` (2)
-or `empty` (3); why a chain is refused `explain chain` says, with the same options.
---anchors  a file of trust anchors: concatenated certificates
---answers  a file of lines that `questions` wrote and a verifier kept
+or `empty` (3). `explain chain`, with the same options, prints why a chain is refused.
+--anchors  a file of trust anchors: certificates in DER, one after another
+--answers  a file of the lines of `questions` that a verifier kept
 --at       validation time: now (the default), YYYY-MM-DDTHH:MM:SSZ, or seconds since 1970
 --purpose  key purpose: serverAuth (the default), clientAuth, codeSigning, emailProtection,
            timeStamping, OCSPSigning, anyExtendedKeyUsage, or an OID
 ";
 
-// What is said of `split`.
-const SPLIT: &str = "usage: cert_tool split [--limit OCTETS] [--place PLACE | --json] STREAM
-Writes PLACE OFFSET LENGTH for each certificate of STREAM, or the octets of the one at PLACE,
-counted from 0.
+// The help for `split`.
+const SPLIT: &str = "usage: cert_tool split [--limit BYTES] [--place PLACE | --json] STREAM
+Prints PLACE OFFSET LENGTH for each certificate of STREAM, or writes the bytes of the certificate
+at index PLACE. The first certificate has index 0.
 ";
 
-// What is said of `reverse`.
-const REVERSE: &str = "usage: cert_tool reverse [--limit OCTETS] STREAM
-Writes the certificates of STREAM, the last one first. TLS sends a chain leaf first; `verify` reads
-the certificate first that an anchor signed.
+// The help for `reverse`.
+const REVERSE: &str = "usage: cert_tool reverse [--limit BYTES] STREAM
+Writes the certificates of STREAM in reverse order. A TLS server sends its own certificate first.
+`verify` expects that certificate last, and first the certificate that a trust anchor signed.
 ";
 
-// What is said of `describe`.
+// The help for `serve`.
+const SERVE: &str = "usage: cert_tool serve
+Answers requests that arrive on standard input, until it ends. A request is the words of a command
+and the files that they name, and its answer is the status, the output and the error output, each
+after its length. docs/CLI.md has the form of both.
+";
+
+// The help for `describe`.
 const DESCRIBE: &str = "usage: cert_tool describe KIND [--digests] [--json] FILE
-       cert_tool describe stream [--limit OCTETS] [--digests] [--json] STREAM
-Writes what FILE says, a line for each part, or what each certificate of STREAM says, one after the
-other, as it is read; with --json a document a line.
+       cert_tool describe stream [--limit BYTES] [--digests] [--json] STREAM
+Prints what FILE contains, a line for each part. `describe stream` prints each certificate of STREAM
+as soon as it is read; with --json it prints a document in each line.
 KIND       certificate, list (a CRL) or request (a CSR)
---digests  SHA-1 and SHA-256 of the octets and of the key, too
+--digests  also prints SHA-1 and SHA-256 of the encoding and of the key
 ";
 
-// What is said of `explain`.
+// The help for `explain`.
 const EXPLAIN: &str = "usage: cert_tool explain KIND [--json] FILE
        cert_tool explain anchors [--json] FILE
-       cert_tool explain stream [--limit OCTETS] [--json] STREAM
+       cert_tool explain stream [--limit BYTES] [--json] STREAM
        cert_tool explain chain --anchors FILE --answers FILE
-       [--at TIME] [--purpose PURPOSE] [--limit OCTETS] [--json] STREAM
-Writes the first fault of FILE, the octet where it stands, and the parts around it; of what is read,
-what RFC 5280 says beyond that. Of a chain it writes which rules each certificate breaks, and why,
-and what is unwise; its options are those of `verify`, and without answers, which /dev/null stands
-for, every signature counts as wrong.
+       [--at TIME] [--purpose PURPOSE] [--limit BYTES] [--json] STREAM
+Prints the first error in FILE, the byte at which it is, and the parts around that byte. If FILE can
+be decoded, prints remarks: what RFC 5280 asks for beyond that. `explain chain` prints which rules
+each certificate breaks, and why, and what is unwise. It takes the options of `verify`; without
+answers (--answers /dev/null) it counts every signature as wrong.
 KIND       certificate, list (a CRL) or request (a CSR)
 ";
 
-// What is said below a command, of files and of statuses.
+// The end of each help text: files, common options and exit statuses.
 pub(crate) const ARGUMENTS: &str =
-    "FILE       a file in DER: openssl x509, crl or req with -outform DER makes it of PEM
-STREAM     concatenated certificates in DER, the one that an anchor signed first
---limit    the most octets that a certificate of STREAM may have, from 6 to 4294967295; else 65536
---json     one document of JSON in place of lines
-The value of an option may stand after = too, as in --limit=4096. The file - is standard input.
-The status is 0 where what was asked for is written, of a chain where it is trusted, 1 where it is
-refused, 2 where octets are faulty, 3 where there are none, 4 where words, anchors or answers are,
-5 on an I/O error, 6 where it is out of memory.
+    "FILE       a file in DER; `openssl x509`, `crl` or `req` with -outform DER converts from PEM
+STREAM     certificates in DER, one after another; the first is the one that an anchor signed
+--limit    the most bytes that a certificate of STREAM may have: 6 to 4294967295 (default 65536)
+--json     prints a document of JSON instead of lines
+An option's value may also follow `=`, as in --limit=4096. The file `-` is standard input.
+Exit status: 0 if all is written (and a chain is trusted), 1 if a chain is refused, 2 if the input
+is malformed, 3 if it is empty, 4 if arguments, trust anchors or answers are wrong, 5 on an I/O
+error, 6 if memory runs out.
 ";
 
-// What is said of a command whose first word this is.
+// Returns the help for the command that begins with this word.
 fn help_for(word: &str) -> Option<&'static str>
     ensures { option_map (λ text. text.now) result ≡ help_for word.now }
 {
@@ -101,11 +109,12 @@ fn help_for(word: &str) -> Option<&'static str>
         "reverse" => Some(REVERSE),
         "describe" => Some(DESCRIBE),
         "explain" => Some(EXPLAIN),
+        "serve" => Some(SERVE),
         _ => None,
     }
 }
 
-// What is said of the first of these words that names a command, or of all.
+// Returns the help for the first of these words that names a command, or for the whole program.
 pub(crate) fn help_of(words: &[&str]) -> &'static str
     ensures { result.now ≡ help_of (map (λ word. word.now) words.now) }
 {

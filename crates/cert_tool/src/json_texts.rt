@@ -6,14 +6,14 @@ ghost use Rattle.cert_tool.specs.JsonTexts.{letter_escape, escaped_text, place_o
 
 use std::alloc::{AllocError, Global};
 
-// Whether a character stands for itself.
+// Returns whether a character stands for itself.
 fn is_plain(letter: char) -> bool
     ensures { result ≡ is_plain letter }
 {
     letter > '\x1f' && letter < '\x7f' && letter != '"' && letter != '\\'
 }
 
-// A unit of UTF-16.
+// Returns a unit of UTF-16.
 fn unit_escape(alloc: Global, unit: u32) -> Result<String, AllocError>
     requires { unit < 2 ^ 16 }
     ensures { IfOk result (λ text. string_bytes text ≡ unit_escape unit) }
@@ -24,7 +24,7 @@ fn unit_escape(alloc: Global, unit: u32) -> Result<String, AllocError>
     format!(in alloc; "\\u{digits}")
 }
 
-// A character in UTF-16.
+// Returns a character in UTF-16.
 fn letter_escape(alloc: Global, letter: char) -> Result<String, AllocError>
     ensures { IfOk result (λ text. string_bytes text ≡ letter_escape letter) }
 {
@@ -52,8 +52,8 @@ fn add_letter(alloc: Global, text: &mut String, letter: char) -> Result<(), Allo
     Ok(())
 }
 
-// A text as it stands between the quotes of a string: what isn't a printable character of ASCII
-// stands behind `\u`, in UTF-16, and so do quotes and backslashes.
+// Returns a text as it is between the quotes of a string: what isn't a printable character of ASCII
+// follows `\u`, in UTF-16, and so do quotes and backslashes.
 pub(crate) fn escaped_text(alloc: Global, text: &str) -> Result<String, AllocError>
     ensures { IfOk result (λ escaped. string_bytes escaped ≡ escaped_text text.now) }
 {
@@ -64,8 +64,8 @@ pub(crate) fn escaped_text(alloc: Global, text: &str) -> Result<String, AllocErr
     Ok(escaped)
 }
 
-// Where a certificate stands in a stream, and whose it is, as an object. The subject is a text as
-// `escaped_text` has it.
+// Returns where a certificate is in a stream, and whose it is, as an object. The subject is a text
+// as `escaped_text` has it.
 pub(crate) fn place_object(
     alloc: Global,
     place: usize,

@@ -40,7 +40,7 @@ fn main(rt: HostRuntime) -> ExitCode {
     ExitCode::from(run(&rt).code())
 }
 
-// The texts of arguments, without the program's name.
+// Returns the texts of arguments, without the program's name.
 fn texts_of(alloc: Global, words: &[String]) -> Result<Vec<&str>, AllocError> {
     let mut texts = Vec::new(alloc);
     if let [_, words @ ..] = words {

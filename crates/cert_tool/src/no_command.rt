@@ -1,33 +1,33 @@
-//! Why words are no command with a file after it.
+//! Messages for arguments that don't begin with a command.
 
 use crate::given::{Given, given_in};
 use crate::tasks::{of_word, of_words};
 use crate::telling::{line_of, line_with};
 use std::alloc::{AllocError, Global};
 
-// What may stand behind a word that is no command by itself.
+// Returns the kinds that a command takes as its second word.
 fn kinds_of(word: &str) -> Option<&'static str> {
     match word {
-        "describe" => Some("certificate, list, request or stream"),
-        "explain" => Some("certificate, list, request, anchors, stream or chain"),
+        "describe" => Some("certificate, list, request, stream"),
+        "explain" => Some("certificate, list, request, anchors, stream, chain"),
         _ => None,
     }
 }
 
-// Why these are none, behind a command of one word.
+// Describes what is missing or unexpected after a command of one word.
 fn line_behind(alloc: Global, given: &Given<'_>) -> Result<String, AllocError> {
     match given.third {
-        Some(word) => line_with(alloc, "", word, " is one too many"),
-        None => line_of(alloc, "a file is missing", "", ""),
+        Some(word) => line_with(alloc, "unexpected argument ", word, ""),
+        None => line_of(alloc, "the file is missing", "", ""),
     }
 }
 
-// That a word is none of these kinds.
+// Says that a word isn't one of these kinds.
 fn kinds_line(alloc: Global, kind: &str, kinds: &str) -> Result<String, AllocError> {
-    format!(in alloc; "{kind:?} isn't {kinds}")
+    format!(in alloc; "{kind:?} isn't one of {kinds}")
 }
 
-// Why these are none, where the first word is of these kinds.
+// Describes what is missing or wrong after a command that takes a kind.
 fn kind_line(
     alloc: Global,
     word: &str,
@@ -35,26 +35,26 @@ fn kind_line(
     kinds: &str,
 ) -> Result<String, AllocError> {
     match kind {
-        None => line_of(alloc, "a kind is missing: ", kinds, ""),
+        None => line_of(alloc, "the kind is missing: ", kinds, ""),
         Some(kind) if of_words(word, kind).is_none() => kinds_line(alloc, kind, kinds),
-        Some(_) => line_of(alloc, "a file is missing", "", ""),
+        Some(_) => line_of(alloc, "the file is missing", "", ""),
     }
 }
 
-// Why words are no command with a file after it, in one line.
+// Describes why arguments aren't a command with a file.
 pub(crate) fn no_command_line(alloc: Global, words: &[&str]) -> Result<String, AllocError> {
     let given = match given_in(words) {
         Ok(given) => given,
         Err(_) => return line_of(alloc, "no command with a file after it", "", ""),
     };
     let Some(word) = given.first else {
-        return line_of(alloc, "a command is missing", "", "");
+        return line_of(alloc, "the command is missing", "", "");
     };
     if let Some(kinds) = kinds_of(word) {
         return kind_line(alloc, word, given.second, kinds);
     }
     if of_word(word).is_none() {
-        return line_with(alloc, "there is no command ", word, "");
+        return line_with(alloc, "unknown command ", word, "");
     }
     line_behind(alloc, &given)
 }

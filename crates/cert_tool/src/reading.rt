@@ -16,8 +16,8 @@ use cert_tool_explain::desk_io::{
 use cert_tool_explain::{Kind, describe, explain_anchors, explain_octets, explain_stream};
 use std::alloc::{AllocError, Global};
 
-// What an input holds, to its end. Where it can't be had, that is told, and the status is the
-// error.
+// Returns what an input holds, to its end. Where it can't be had, that is reported, and the status
+// is the error.
 pub(crate) fn read_input<I: Input, E: Output>(
     alloc: Global,
     input: &mut I,
@@ -34,14 +34,14 @@ pub(crate) fn read_input<I: Input, E: Output>(
     match read_all(alloc, input, u32::MAX) {
         Ok(octets) => Ok(octets),
         Err(ReadAllError::TooMuch) => {
-            Err(complain(err, b"more than 4294967295 octets\n", ExitStatus::Faulty))
+            Err(complain(err, b"more than 4294967295 bytes\n", ExitStatus::Faulty))
         }
         Err(ReadAllError::Device) => Err(tell_device(err)),
         Err(ReadAllError::OutOfMemory) => Err(tell_memory(err)),
     }
 }
 
-// What a file of this name holds; where it can't be read, that is told.
+// Returns what a file of this name holds; where it can't be read, that is reported.
 fn read_file<I: Input + Drop, F: NamedInputs<I>, E: Output>(
     alloc: Global,
     files: &F,
@@ -105,7 +105,7 @@ pub(crate) fn describe_file<I: Input + Drop, F: NamedInputs<I>, O: Output, E: Ou
     }
 }
 
-// What explains octets, as a task asks for.
+// Returns what explains bytes, as a task asks for.
 fn explanation(alloc: Global, octets: &[u8], task: &Task<'_>) -> Result<Vec<u8>, AllocError>
     requires { 6 ≤ task.now.limit }
 {

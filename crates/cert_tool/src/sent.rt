@@ -4,7 +4,7 @@ ghost use Rattle.cert_tool.specs.Sending.{IsSent};
 
 use cert_tool_explain::desk_io::{MemoryInput, NamedInputs, OpenError, split_frame};
 
-/// Inputs that were sent: frames of names and of octets, in turn.
+/// Inputs that were sent: frames of names and of bytes, in turn.
 #[derive(Clone, Copy)]
 pub struct Sent<'a> {
     /// The frames.
@@ -31,7 +31,7 @@ impl<'a> NamedInputs<MemoryInput<'a>> for Sent<'a> {
     }
 }
 
-// The octets of the first input of a name, if there is one.
+// Returns the bytes of the first input of a name, if there is one.
 fn find<'a>(name: &[u8], parts: &'a [u8]) -> Option<&'a [u8]>
     ensures found { IfSome result (λ octets. IsSent name.now octets.now parts.now) }
     ensures missing { IsNone result → (octets : List ℕ) → IsSent name.now octets parts.now → ⊥ }

@@ -16,10 +16,10 @@ use cert_tool_explain::desk_io::{
 use std::alloc::{AllocError, Global};
 use std::str;
 
-// The most octets that a request may have.
+// The most bytes that a request may have.
 const MOST: u32 = 64 << 20;
 
-// The words of a text, one a line.
+// Returns the words of a text, one a line.
 fn words_of(alloc: Global, text: &str) -> Result<Vec<&str>, AllocError>
     ensures { IfOk result (λ words. map (λ word. word.now) words.items ≡ words_in text.now) }
 {
@@ -27,7 +27,7 @@ fn words_of(alloc: Global, text: &str) -> Result<Vec<&str>, AllocError>
 }
 
 // Does what a request asks for: a frame of words, one a line, and the inputs that they name. The
-// status is `Arguments` where it has no words.
+// status is `Arguments` if it has no words.
 fn done<C: UnixClock, O: Output, E: Output>(
     alloc: Global,
     clock: &C,
@@ -78,8 +78,8 @@ fn framed(
     Ok(octets)
 }
 
-// The answer to a request: frames of the status, of what goes to the output and of what goes to the
-// error output.
+// Returns the answer to a request: frames of the status, of what goes to the output and of what
+// goes to the error output.
 fn answer<C: UnixClock>(alloc: Global, clock: &C, request: &[u8]) -> Result<Vec<u8>, FrameError>
     ensures answer { IfOk result (λ answer. IsReply (C.tells clock.now) request.now answer.items) }
     ensures none { IfErr result (HasNoReply (C.tells clock.now) request.now) }
@@ -94,7 +94,7 @@ fn answer<C: UnixClock>(alloc: Global, clock: &C, request: &[u8]) -> Result<Vec<
     framed(alloc, status, output.as_slice(), errors.as_slice())
 }
 
-// Answers the next request, or says that there is none.
+// Returns the next request, or says that there is none.
 fn answer_next<C: UnixClock, I: Input, O: Output>(
     alloc: Global,
     clock: &C,
@@ -132,7 +132,7 @@ fn tell_unserved<E: Output>(err: &mut E, error: FrameError) -> ExitStatus
     }
 }
 
-/// Answers each request of the input, up to its end or the first that isn't read or answered.
+/// Returns each request of the input, up to its end or the first that isn't read or answered.
 pub fn serve<C: UnixClock, I: Input, O: Output, E: Output>(
     alloc: Global,
     clock: &C,

@@ -2,7 +2,7 @@
 
 use std::alloc::{AllocError, Global};
 
-// Whether a shell reads this octet as itself at each place of a word, and the word as it stands.
+// Returns whether a shell reads this byte as itself at each place of a word, and the word as it is.
 fn is_bare(octet: u8) -> bool {
     octet.is_ascii_alphanumeric()
         || matches!(
@@ -11,7 +11,7 @@ fn is_bare(octet: u8) -> bool {
         )
 }
 
-// The text in single quotes, in which no character but that quote means more than itself.
+// Returns the text in single quotes, in which no character but that quote means more than itself.
 fn quoted(alloc: Global, text: &str) -> Result<String, AllocError> {
     let mut word = String::new(alloc);
     word.push('\'')?;

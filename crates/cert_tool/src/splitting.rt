@@ -23,7 +23,7 @@ use cert_tool_explain::desk_checking::read_stream;
 use cert_tool_explain::desk_io::{ExitStatus, Input, Output, answer, complain, tell_memory};
 use std::alloc::{AllocError, Global};
 
-// A line for each certificate: its place, where it begins, and how many octets it has.
+// Returns a line for each certificate: its place, where it begins, and how many bytes it has.
 fn list_of(alloc: Global, bundle: &Bundle) -> Result<String, AllocError>
     ensures { IfOk result (λ text. string_bytes text ≡ place_lines bundle.now.certificates) }
 {
@@ -36,14 +36,14 @@ fn list_of(alloc: Global, bundle: &Bundle) -> Result<String, AllocError>
     Ok(text)
 }
 
-// What stands before the object of a place.
+// Returns what comes before the object of a place.
 fn comma_before(place: usize) -> &'static str
     ensures { result.now ≡ comma_before place }
 {
     if place == 0 { "" } else { "," }
 }
 
-// The text of a name (RFC 4514).
+// Returns the text of a name (RFC 4514).
 fn name_text(alloc: Global, name: &Name) -> Result<String, AllocError>
     ensures { IfOk result (λ text. string_bytes text ≡ name_text (name_plain name.now)) }
 {
@@ -51,7 +51,7 @@ fn name_text(alloc: Global, name: &Name) -> Result<String, AllocError>
     Ok(text)
 }
 
-// The text of a certificate's subject, as it stands in a string of JSON.
+// Returns the text of a certificate's subject, as it is in a string of JSON.
 fn subject_of(alloc: Global, certificate: &CertificateInner<Raw>) -> Result<String, AllocError>
     ensures { IfOk result (λ text. string_bytes text
         ≡ escaped_text (name_text (subject (certificate_plain certificate.now)))) }
@@ -61,7 +61,7 @@ fn subject_of(alloc: Global, certificate: &CertificateInner<Raw>) -> Result<Stri
     Ok(text)
 }
 
-// Where the certificate at a place stands, and whose it is, as an object of JSON.
+// Returns where the certificate at a place stands, and whose it is, as an object of JSON.
 fn json_at(alloc: Global, bundle: &Bundle, place: usize) -> Result<String, AllocError>
     requires { place < length bundle.now.certificates }
     ensures { IfOk result (λ text. string_bytes text ≡ json_at bundle.now.certificates place) }
@@ -73,7 +73,7 @@ fn json_at(alloc: Global, bundle: &Bundle, place: usize) -> Result<String, Alloc
     Ok(text)
 }
 
-// Where the certificates stand as JSON: an array of objects.
+// Returns where the certificates stand as JSON: an array of objects.
 fn json_of(alloc: Global, bundle: &Bundle) -> Result<String, AllocError>
     ensures { IfOk result (λ text. string_bytes text ≡ places_text true bundle.now.certificates) }
 {
@@ -88,7 +88,7 @@ fn json_of(alloc: Global, bundle: &Bundle) -> Result<String, AllocError>
     Ok(text)
 }
 
-// The octets of the certificates, the last one first.
+// Returns the bytes of the certificates, the last one first.
 fn reversed(alloc: Global, bundle: &Bundle) -> Result<Vec<u8>, AllocError>
     ensures { IfOk result (λ octets. octets.items ≡ reversed bundle.now.certificates) }
 {
@@ -101,7 +101,7 @@ fn reversed(alloc: Global, bundle: &Bundle) -> Result<Vec<u8>, AllocError>
     Ok(octets)
 }
 
-// Where the certificates stand.
+// Returns where the certificates stand.
 fn text_of(alloc: Global, bundle: &Bundle, json: bool) -> Result<String, AllocError>
     ensures { IfOk result (λ text. string_bytes text ≡ places_text json bundle.now.certificates) }
 {
@@ -156,7 +156,7 @@ fn tell_taken<O: Output, E: Output>(
         Some(outcome) => tell_stop(alloc, outcome, err),
         None => complain(
             err,
-            b"no certificate at that place\n",
+            b"no certificate has that index\n",
             ExitStatus::Arguments,
         ),
     }
@@ -186,7 +186,8 @@ fn tell_reversed<O: Output, E: Output>(
 /// decimal. As JSON that is an array of objects, with the members `place`, `offset`, `length` and
 /// `subject`, the text of the name (RFC 4514).
 ///
-/// The certificates before a fault are listed too, and then the fault is told on the error output.
+/// The certificates before a fault are listed too, and then the fault is reported on the error
+/// output.
 pub fn run_list<S: Input, O: Output, E: Output>(
     alloc: Global,
     stream: &mut S,
@@ -205,7 +206,7 @@ pub fn run_list<S: Input, O: Output, E: Output>(
     tell_places(alloc, &bundle, out, err, json)
 }
 
-/// Writes the octets of the certificate at a place of a stream. Where it stands before a fault, the
+/// Writes the bytes of the certificate at a place of a stream. Where it comes before a fault, the
 /// fault isn't told.
 pub fn run_take<S: Input, O: Output, E: Output>(
     alloc: Global,

@@ -6,7 +6,7 @@ use cert_tool_explain::desk_bundle::{Bundle, Standing};
 use cert_tool_explain::desk_checking::Outcome;
 use cert_tool_explain::desk_rules::{Checked, Verdict};
 
-// Why a bundle holds no whole stream with a certificate in it, if it doesn't.
+// Returns why a bundle holds no whole stream with a certificate in it, if it doesn't.
 pub(crate) fn stop_of(bundle: &Bundle) -> Option<Outcome>
     requires { bundle.now.standing ≢ Standing.Open }
     ensures { result ≡ stop_of bundle.now }

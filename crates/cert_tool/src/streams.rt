@@ -36,8 +36,8 @@ fn split_input<I: Input, O: Output, E: Output>(
     }
 }
 
-// Tells what failed and what tells more. That a read failed is told where the certificate that was
-// asked for wasn't had.
+// Tells what failed and what tells more. That a read failed is reported where the certificate that
+// was asked for wasn't had.
 fn tell_behind<I, F: NamedInputs<I>, E: Output>(
     alloc: Global,
     files: &F,
@@ -98,7 +98,7 @@ pub(crate) fn reverse<I: Input + Drop, F: NamedInputs<I>, O: Output, E: Output>(
     status
 }
 
-// `describe stream`. A fault or a failed read is told where it ended the descriptions.
+// `describe stream`. A fault or a failed read is reported where it ended the descriptions.
 pub(crate) fn describe_each<I: Input + Drop, F: NamedInputs<I>, O: Output, E: Output>(
     alloc: Global,
     files: &F,

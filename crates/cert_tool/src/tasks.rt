@@ -32,11 +32,11 @@ pub enum Command {
     Describe(Kind),
     /// What each certificate of a stream says is written.
     DescribeStream,
-    /// Why octets are refused is written.
+    /// Why bytes are rejected is written.
     Explain(Kind),
-    /// Why anchors are refused is written.
+    /// Why anchors are rejected is written.
     ExplainAnchors,
-    /// Why a stream is refused is written.
+    /// Why a stream is rejected is written.
     ExplainStream,
     /// Which rules a chain breaks is written.
     ExplainChain,
@@ -58,7 +58,7 @@ pub enum Need {
 pub enum Misuse<'a> {
     /// An option or another word is wrong.
     Words(WordFault<'a>),
-    /// The words that are neither options nor values are no command with a file after it.
+    /// The words that are neither options nor values aren't a command with a file after it.
     NoCommand,
     /// The command needs this option.
     Missing(Key),
@@ -87,17 +87,17 @@ pub struct Task<'a> {
     pub moment: Moment,
     /// The key purpose: what a chain is wanted for.
     pub purpose: ObjectIdentifier<39>,
-    /// The most octets that a certificate of a stream may have.
+    /// The most bytes that a certificate of a stream may have.
     pub limit: u32,
     /// The place of the certificate that is written.
     pub place: Option<u64>,
     /// Whether what is written is JSON (RFC 8259).
     pub json: bool,
-    /// Whether digests are told too.
+    /// Whether digests are reported too.
     pub digests: bool,
 }
 
-// The kind that a word names.
+// Returns the kind that a word names.
 fn kind_of(word: &str) -> Option<Kind>
     ensures { result ≡ kind_of word.now }
 {
@@ -109,7 +109,7 @@ fn kind_of(word: &str) -> Option<Kind>
     }
 }
 
-// The command of a word.
+// Returns the command of a word.
 pub(crate) fn of_word(word: &str) -> Option<Command>
     ensures { result ≡ of_word word.now }
 {
@@ -122,7 +122,7 @@ pub(crate) fn of_word(word: &str) -> Option<Command>
     }
 }
 
-// The command that describes what a word names.
+// Returns the command that describes what a word names.
 fn of_described(kind: &str) -> Option<Command>
     ensures { result ≡ of_described kind.now }
 {
@@ -135,7 +135,7 @@ fn of_described(kind: &str) -> Option<Command>
     }
 }
 
-// The command that explains what a word names.
+// Returns the command that explains what a word names.
 fn of_explained(kind: &str) -> Option<Command>
     ensures { result ≡ of_explained kind.now }
 {
@@ -150,7 +150,7 @@ fn of_explained(kind: &str) -> Option<Command>
     }
 }
 
-// The command of a word and what it is of.
+// Returns the command of a word and what it is of.
 pub(crate) fn of_words(word: &str, kind: &str) -> Option<Command>
     ensures { result ≡ of_words word.now kind.now }
 {
@@ -161,7 +161,7 @@ pub(crate) fn of_words(word: &str, kind: &str) -> Option<Command>
     }
 }
 
-// The command that the words between options name, and the file that stands behind it.
+// Returns the command that the words between options name, and the file that follows it.
 fn command_in<'a>(given: &Given<'a>) -> Option<(Command, &'a str)>
     ensures { plain_command result ≡ command_in (given_plain given.now) }
 {
@@ -184,21 +184,21 @@ fn command_in<'a>(given: &Given<'a>) -> Option<(Command, &'a str)>
 }
 
 impl Command {
-    // Whether it judges a chain.
+    // Returns whether it judges a chain.
     fn judges(self) -> bool
         ensures { result ≡ judges self }
     {
         matches!(self, Command::Verify | Command::ExplainChain)
     }
 
-    // Whether it needs anchors.
+    // Returns whether it needs anchors.
     fn asks(self) -> bool
         ensures { result ≡ asks self }
     {
         matches!(self, Command::Questions) || self.judges()
     }
 
-    // Whether it reads certificates one behind the other.
+    // Returns whether it reads certificates one after another.
     fn reads_stream(self) -> bool
         ensures { result ≡ reads_stream self }
     {
@@ -208,21 +208,21 @@ impl Command {
         ) || self.asks()
     }
 
-    // Whether it describes something.
+    // Returns whether it describes something.
     fn describes(self) -> bool
         ensures { result ≡ describes self }
     {
         matches!(self, Command::Describe(_) | Command::DescribeStream)
     }
 
-    // Whether it writes texts of its own.
+    // Returns whether it writes texts of its own.
     fn tells(self) -> bool
         ensures { result ≡ tells self }
     {
         !matches!(self, Command::Questions | Command::Reverse)
     }
 
-    // Whether it has this option.
+    // Returns whether it has this option.
     fn need_of(self, key: Key) -> Need
         ensures { result ≡ need_of self key }
     {
@@ -298,14 +298,14 @@ impl Command {
     }
 }
 
-// Whether a name is that of standard input.
+// Returns whether a name is that of standard input.
 fn is_standard(name: &str) -> bool
     ensures { result ≡ is_standard name.now }
 {
     name == "-"
 }
 
-// Whether two of three files are standard input.
+// Returns whether two of three files are standard input.
 fn shares_input(anchors: &str, answers: &str, file: &str) -> bool
     ensures { result ≡ shares_input anchors.now answers.now file.now }
 {
@@ -317,14 +317,14 @@ fn shares_input(anchors: &str, answers: &str, file: &str) -> bool
     (anchors && answers) || (anchors && file) || (answers && file)
 }
 
-// The value of an option, or what stands for it where it is left out.
+// Returns the value of an option, or what stands for it where it is left out.
 fn text_of<'a>(given: &Given<'a>, key: Key, default: &'a str) -> &'a str
     ensures { result.now ≡ unwrap_or (value_of key (given_plain given.now)) default.now }
 {
     given.value_of(key).unwrap_or(default)
 }
 
-// The validation time that is asked for; the text that is none is the error.
+// Returns the validation time that is asked for; the text that is none is the error.
 fn moment_of<'a>(given: &Given<'a>) -> Result<Moment, &'a str>
     ensures read { IfOk result (λ moment. IsMoment moment (moment_text (given_plain given.now))) }
     ensures amiss { IfErr result (λ text. IsNoValue Key.At text.now (given_plain given.now)) }
@@ -333,7 +333,7 @@ fn moment_of<'a>(given: &Given<'a>) -> Result<Moment, &'a str>
     moment_in(text).ok_or(text)
 }
 
-// The key purpose that is asked for; the text that is none is the error.
+// Returns the key purpose that is asked for; the text that is none is the error.
 fn purpose_of<'a>(given: &Given<'a>) -> Result<ObjectIdentifier<39>, &'a str>
     ensures read { IfOk result (λ purpose.
         IsPurpose purpose (purpose_text (given_plain given.now))) }
@@ -343,7 +343,7 @@ fn purpose_of<'a>(given: &Given<'a>) -> Result<ObjectIdentifier<39>, &'a str>
     purpose_in(text).map_err(|_| text)
 }
 
-// The most octets that are asked for; the text that is no such number is the error.
+// Returns the most bytes that are asked for; the text that is no such number is the error.
 fn limit_of<'a>(given: &Given<'a>) -> Result<u32, &'a str>
     ensures read { IfOk result (λ limit. IsLimit limit (limit_text (given_plain given.now))) }
     ensures amiss { IfErr result (λ text. IsNoValue Key.Limit text.now (given_plain given.now)) }
@@ -352,7 +352,7 @@ fn limit_of<'a>(given: &Given<'a>) -> Result<u32, &'a str>
     limit_in(text).ok_or(text)
 }
 
-// The place that is asked for, if one is; the text that is none is the error.
+// Returns the place that is asked for, if one is; the text that is none is the error.
 fn place_in<'a>(given: &Given<'a>) -> Result<Option<u64>, &'a str>
     ensures read { IfOk result (λ place. IsPlace place (given_plain given.now).place) }
     ensures amiss { IfErr result (λ text. IsNoValue Key.Place text.now (given_plain given.now)) }
@@ -366,21 +366,21 @@ fn place_in<'a>(given: &Given<'a>) -> Result<Option<u64>, &'a str>
     Ok(Some(place))
 }
 
-// Whether an option is given.
+// Returns whether an option is given.
 fn is_given(given: &Given<'_>, key: Key) -> bool
     ensures { result ≡ is_some (value_of key (given_plain given.now)) }
 {
     given.value_of(key).is_some()
 }
 
-// Whether one certificate is wanted, and JSON.
+// Returns whether one certificate is wanted, and JSON.
 fn is_octets_in_json(given: &Given<'_>) -> bool
     ensures { result ≡ is_octets_in_json (given_plain given.now) }
 {
     is_given(given, Key::Place) && is_given(given, Key::Json)
 }
 
-// What a command asks for of a file, under options that it may have.
+// Returns what a command asks for of a file, under options that it may have.
 fn task_of<'a>(command: Command, file: &'a str, given: &Given<'a>) -> Result<Task<'a>, Misuse<'a>>
     requires kept { KeepsAll command (given_plain given.now) }
     ensures read { IfOk result (λ task.
@@ -416,7 +416,7 @@ fn task_of<'a>(command: Command, file: &'a str, given: &Given<'a>) -> Result<Tas
 }
 
 impl<'a> Task<'a> {
-    /// What these words ask for, of those after the program's name.
+    /// Returns what these words ask for, of those after the program's name.
     ///
     /// Options stand anywhere, each with its value after it, or after `=` in the same word. Where
     /// they are left out `--at` is `now`, `--purpose` is `serverAuth`, and `--limit` is 65536.

@@ -1,4 +1,4 @@
-//! Texts that the program itself tells.
+//! Messages on the error output.
 
 ghost use Rattle.std.specs.Prelude.{◌<◌, length, IfOk, string_bytes};
 ghost use Rattle.cert_tool_explain.specs.DeskIo.Devices.{sink};
@@ -12,7 +12,7 @@ use crate::tasks::{Misuse, Task};
 use cert_tool_explain::desk_io::{ExitStatus, Output, tell_memory, write_all};
 use std::alloc::{AllocError, Global};
 
-// A line with its end.
+// Appends a line feed.
 fn ended(line: Result<String, AllocError>) -> Result<String, AllocError>
     ensures { IfOk result (λ text. 0 < length (string_bytes text)) }
 {
@@ -21,8 +21,8 @@ fn ended(line: Result<String, AllocError>) -> Result<String, AllocError>
     Ok(text)
 }
 
-// Writes a line to the error output, or that there is no memory for it. What can't be written is
-// passed over: nothing is left on which to tell it.
+// Writes a line to the error output, or `memory` if the line can't be allocated. An error of the
+// error output is ignored, since nothing is left to report it on.
 pub(crate) fn tell<E: Output>(err: &mut E, line: Result<String, AllocError>)
     ensures { IsReasonTold (sink E.gives E.failures err.old err.new) }
 {
@@ -36,7 +36,7 @@ pub(crate) fn tell<E: Output>(err: &mut E, line: Result<String, AllocError>)
     }
 }
 
-// These parts in turn.
+// Joins three texts.
 pub(crate) fn line_of(
     alloc: Global,
     before: &str,
@@ -46,7 +46,7 @@ pub(crate) fn line_of(
     format!(in alloc; "{before}{word}{behind}")
 }
 
-// These parts in turn, the word in quotes.
+// Joins three texts, with the word in quotes.
 pub(crate) fn line_with(
     alloc: Global,
     before: &str,
@@ -56,7 +56,7 @@ pub(crate) fn line_with(
     format!(in alloc; "{before}{word:?}{behind}")
 }
 
-// How an option is written.
+// Returns the name of an option.
 fn word_of(key: Key) -> &'static str {
     match key {
         Key::Anchors => "--anchors",
@@ -70,7 +70,7 @@ fn word_of(key: Key) -> &'static str {
     }
 }
 
-// What values an option may have.
+// Describes the values that an option may have.
 fn values_of(key: Key) -> &'static str {
     match key {
         Key::Anchors | Key::Answers => "a file",
@@ -79,63 +79,63 @@ fn values_of(key: Key) -> &'static str {
             "serverAuth, clientAuth, codeSigning, emailProtection, timeStamping, OCSPSigning, \
             anyExtendedKeyUsage, or an OID"
         }
-        Key::Limit => "a number of octets from 6 to 4294967295",
-        Key::Place => "the number of a certificate, counted from 0",
+        Key::Limit => "a number of bytes from 6 to 4294967295",
+        Key::Place => "the index of a certificate, counted from 0",
         Key::Json | Key::Digests => "without a value",
     }
 }
 
-// What is wrong with options, values and other words, in one line.
+// Describes an error in the options and the other arguments.
 fn fault_line(alloc: Global, fault: WordFault<'_>) -> Result<String, AllocError> {
     match fault {
         WordFault::Unknown(word) if word.starts_with("--json=") || word.starts_with("--digests=") =>
-            { line_with(alloc, "", word, ": this option stands without a value") }
-        WordFault::Unknown(word) => line_with(alloc, "there is no option ", word, ""),
+            { line_with(alloc, "", word, ": this option takes no value") }
+        WordFault::Unknown(word) => line_with(alloc, "unknown option ", word, ""),
         WordFault::Twice(key) => line_of(alloc, word_of(key), " is given twice", ""),
-        WordFault::NoValue(key) => line_of(alloc, word_of(key), " has no value", ""),
-        WordFault::Surplus(word) => line_with(alloc, "", word, " is one too many"),
+        WordFault::NoValue(key) => line_of(alloc, word_of(key), " needs a value", ""),
+        WordFault::Surplus(word) => line_with(alloc, "unexpected argument ", word, ""),
     }
 }
 
-// What is wrong with the value of an option, in one line.
+// Describes an option's wrong value.
 fn wrong_line(alloc: Global, key: Key, text: &str) -> Result<String, AllocError> {
     let (word, values) = (word_of(key), values_of(key));
     format!(in alloc; "{word}: {text:?} isn't {values}")
 }
 
-// What is wrong with words, in one line.
+// Describes an error in the arguments.
 fn misuse_line(alloc: Global, words: &[&str], misuse: Misuse<'_>) -> Result<String, AllocError> {
     match misuse {
         Misuse::Words(fault) => fault_line(alloc, fault),
         Misuse::NoCommand => no_command_line(alloc, words),
         Misuse::Missing(key) => line_of(alloc, word_of(key), " is missing", ""),
-        Misuse::Excess(key) => line_of(alloc, "this command has no ", word_of(key), ""),
+        Misuse::Excess(key) => line_of(alloc, "this command doesn't take ", word_of(key), ""),
         Misuse::Wrong(key, text) => wrong_line(alloc, key, text),
         Misuse::OctetsInJson => {
             line_of(
                 alloc,
-                "--place writes octets, which --json has no form for",
+                "--place writes bytes, so --json can't be given with it",
                 "",
                 "",
             )
         }
-        Misuse::SharedInput => line_of(alloc, "two files are standard input", "", ""),
+        Misuse::SharedInput => line_of(alloc, "only one file can be standard input", "", ""),
     }
 }
 
-// Says what is wrong with words, and how the command is called or where that is told.
+// Writes what is wrong with the arguments, and then the help, or the command that prints it.
 pub(crate) fn tell_misuse<E: Output>(alloc: Global, words: &[&str], misuse: Misuse<'_>, err: &mut E)
     ensures { IsReasonTold (sink E.gives E.failures err.old err.new) }
 {
     tell(err, misuse_line(alloc, words, misuse));
     let help = match misuse {
         Misuse::NoCommand => help_of(words),
-        _ => "cert_tool COMMAND --help tells how it is called\n",
+        _ => "`cert_tool COMMAND --help` explains the command\n",
     };
     let _ = write_all(err, help.as_bytes());
 }
 
-// The command that tells why a stream can't be read, in a line.
+// Returns a hint: the command that explains why a stream can't be decoded.
 fn stream_hint(alloc: Global, limit: u32, file: &str) -> Result<String, AllocError> {
     match shell_word(alloc, file)? {
         Some(file) => {
@@ -147,7 +147,7 @@ fn stream_hint(alloc: Global, limit: u32, file: &str) -> Result<String, AllocErr
     }
 }
 
-// The command that tells why anchors can't be read, in a line.
+// Returns a hint: the command that explains why trust anchors can't be decoded.
 fn anchors_hint(alloc: Global, file: &str) -> Result<String, AllocError> {
     let pem = "tools/pem_to_der.sh converts PEM to DER";
     match shell_word(alloc, file)? {
@@ -156,7 +156,7 @@ fn anchors_hint(alloc: Global, file: &str) -> Result<String, AllocError> {
     }
 }
 
-// Says what tells more of a stream that isn't certificates.
+// Writes the hint for a stream that can't be decoded.
 pub(crate) fn tell_fault<E: Output>(
     alloc: Global,
     task: &Task<'_>,
@@ -168,7 +168,7 @@ pub(crate) fn tell_fault<E: Output>(
     }
 }
 
-// Says what tells more of a chain that isn't trusted; of anchors where the answers are read.
+// Writes the hint for a chain that isn't trusted, or for anchors if the answers could be read.
 pub(crate) fn tell_more<E: Output>(
     alloc: Global,
     task: &Task<'_>,

@@ -25,11 +25,11 @@ pub struct Opened<I> {
     pub stream: I,
 }
 
-/// The answers that an input gives, to its end, as `answers_in` reads them.
+/// Returns the answers that an input gives, to its end, as `answers_in` reads them.
 ///
 /// # Errors
 ///
-/// Those of `answers_in`; `TooMuch`, where one octet more than 2^32 - 1 is taken; `Device`.
+/// The errors of `answers_in`; `TooMuch`, where one more byte than 2^32 - 1 is taken; `Device`.
 pub fn read_answers<N: Input>(alloc: Global, answers: &mut N) -> Result<Vec<Answer>, NoAnswers>
     ensures read { IfOk result (λ read. AreAnswers
         (source N.takes N.is_ended N.failures answers.old answers.new)
@@ -47,14 +47,14 @@ pub fn read_answers<N: Input>(alloc: Global, answers: &mut N) -> Result<Vec<Answ
     Ok(answers)
 }
 
-// What is said of a file whose line of this number has this fault.
+// Returns what is said of a file whose line of this number has this fault.
 fn fault_line(alloc: Global, number: u64, fault: LineFault) -> Result<String, AllocError>
     ensures { IfOk result (λ text. string_bytes text ≡ wrong_line number fault) }
 {
     format!(in alloc; "answers: line {number}: {fault}\n")
 }
 
-/// Tells why there are no answers, in one line, and answers the status.
+/// Tells why there aren't answers, in one line, and answers the status.
 pub fn tell_none<E: Output>(alloc: Global, none: NoAnswers, err: &mut E) -> ExitStatus
     ensures { IsNoneTold (sink E.gives E.failures err.old err.new) none result }
 {
@@ -73,7 +73,7 @@ pub fn tell_none<E: Output>(alloc: Global, none: NoAnswers, err: &mut E) -> Exit
     }
 }
 
-// What is said of a verdict as JSON.
+// Returns what is said of a verdict as JSON.
 fn verdict_json(alloc: Global, checked: Checked) -> Result<String, AllocError>
     ensures { IfOk result (λ text. string_bytes text
         ≡ verdict_json checked.verdict checked.calls) }
@@ -95,7 +95,7 @@ fn verdict_json(alloc: Global, checked: Checked) -> Result<String, AllocError>
     }
 }
 
-// What is said of a verdict, as JSON or as a line.
+// Returns what is said of a verdict, as JSON or as a line.
 fn verdict_text(alloc: Global, checked: Checked, json: bool) -> Result<String, AllocError>
     ensures { IfOk result (λ text. string_bytes text
         ≡ verdict_text json checked.verdict checked.calls) }
@@ -130,12 +130,12 @@ fn tell_outcome<O: Output, E: Output>(
 }
 
 /// Judges the stream of one input under the anchors of another as `run_check` does, by a judge that
-/// says yes to the answers of a third, and no to all else. The verdict is told in a line, or as
+/// says yes to the answers of a third, and no to all else. The verdict is reported in a line, or as
 /// JSON: an object with the members `verdict`, `place`, `rule`, `offset`, `kind` and `calls`, of
 /// which it has those that its line has.
 ///
-/// The answers are read first, as `read_answers` reads them. Where there are none, that is told,
-/// `are_read` becomes false, and nothing else is touched.
+/// The answers are read first, as `read_answers` reads them. Where there are none, that is
+/// reported, `are_read` becomes false, and nothing else is touched.
 pub fn run_verify<I: Input, O: Output, E: Output>(
     alloc: Global,
     inputs: &mut Opened<I>,

@@ -20,35 +20,35 @@ use cert_tool_explain::desk_io::{
 };
 use std::alloc::Global;
 
-// Whether a word asks for help, or which program it is.
+// Returns whether a word asks for help, or which program it is.
 fn asks_of_program(word: &str) -> bool
     ensures { result ≡ asks_of_program word.now }
 {
     word == "--help" || word == "-h" || word == "--version"
 }
 
-// Whether one of these words does.
+// Returns whether one of these words does.
 fn ask_of_program(words: &[&str]) -> bool
     ensures { result ≡ list_any (λ word. asks_of_program word.now) words.now }
 {
     words.iter().any(|word| asks_of_program(word))
 }
 
-// Whether a word asks which program it is.
+// Returns whether a word asks which program it is.
 fn is_version(word: &str) -> bool
     ensures { result ≡ is_version word.now }
 {
     word == "--version"
 }
 
-// Whether one of these words does.
+// Returns whether one of these words does.
 fn ask_version(words: &[&str]) -> bool
     ensures { result ≡ list_any (λ word. is_version word.now) words.now }
 {
     words.iter().any(|word| is_version(word))
 }
 
-// What is said of the program, in two parts, to those who ask by these words.
+// Returns what is said of the program, in two parts, to those who ask by these words.
 fn program_texts(words: &[&str]) -> (&'static str, &'static str)
     ensures { result.0.now ++ result.1.now ≡ program_text (map (λ word. word.now) words.now) }
 {
@@ -112,12 +112,12 @@ fn done<C: UnixClock, I: Input + Drop, F: NamedInputs<I>, O: Output, E: Output>(
     }
 }
 
-/// Does what the words of `cert_tool` ask for, of those after the program's name: `Task::parse`
-/// reads them, and the task is done on the inputs of the names that it has.
+/// Does what the arguments of `cert_tool` ask for, without the name of the program. `Task::parse`
+/// reads them, and the task is done on the inputs that they name.
 ///
-/// Verdicts, questions, certificates and what else was asked for go to `out`; what is wrong with
-/// words, inputs and their contents goes to `err`, and after that hints how more is told. Where
-/// `is_watched`, as on a terminal, `err` also counts what is done of a long stream.
+/// Results go to `out`. What is wrong with arguments, inputs and their contents goes to `err`,
+/// followed by hints which command tells more. If `is_watched`, as on a terminal, `err` also shows
+/// the progress on a long stream.
 pub fn obey<C: UnixClock, I: Input + Drop, F: NamedInputs<I>, O: Output, E: Output>(
     alloc: Global,
     clock: &C,

@@ -1,3 +1,4 @@
+-- Goals of `asking::find_questions` that the checker doesn't prove by itself.
 use Rattle.std.proofs.Common.{map, inl, inr, sym, ◌∙◌, refl}
 use Rattle.std.proofs.lemmas.Result.{err_from_is_err_and}
 use Rattle.cert_tool_explain.specs.DeskChecking.Anchors.{anchor_plain}

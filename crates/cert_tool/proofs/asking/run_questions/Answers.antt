@@ -1,3 +1,4 @@
+-- Goals of `asking::run_questions` that the checker doesn't prove by itself.
 use Rattle.std.proofs.Common.{Ok, Err, string_bytes, refl, subst}
 use Rattle.cert_tool_explain.specs.DeskIo.declared.exit_status.ExitStatus.TheVariants as statuses
 use Rattle.cert_tool_explain.specs.DeskIo.Devices.{sink}

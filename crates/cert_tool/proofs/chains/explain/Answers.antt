@@ -1,3 +1,4 @@
+-- Goals of `chains::explain` that the checker doesn't prove by itself.
 use Rattle.std.proofs.Common.{inl, inr, refl, subst}
 use Rattle.cert_tool_explain.specs.DeskIo.Devices.{sink, source}
 use Rattle.cert_tool.specs.Explaining.{IsExplained}

@@ -1,3 +1,4 @@
+-- Goals of `chains::tell_untimed` that the checker doesn't prove by itself.
 use Rattle.cert_tool_explain.specs.DeskIo.Devices.{sink}
 use Rattle.cert_tool.specs.TaskRuns.{clock_line}
 use Rattle.cert_tool.proofs.ToldLaws.{tried}

@@ -1,3 +1,4 @@
+-- Goals of `files::open` that the checker doesn't prove by itself.
 use Rattle.std.proofs.Common.{ap, sym}
 use Rattle.cert_tool_explain.specs.DeskIo.Devices.{sink}
 use Rattle.cert_tool_explain.specs.DeskIo.NamedInputs.{unopened_status}

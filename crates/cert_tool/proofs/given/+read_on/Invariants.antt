@@ -1,3 +1,4 @@
+-- The loop invariants of `given::read_on`.
 use Rattle.std.proofs.Common.{length}
 use Rattle.cert_tool.proofs.given.+read_on.Given as goal
 

@@ -1,3 +1,4 @@
+-- Goals of `given::parts_of` that the checker doesn't prove by itself.
 use Rattle.std.proofs.Common.{◌+◌, lit<, Some, None, length, take, drop, take_all, le_of_eq, refl, ap, sym, ◌∙◌, arith}
 use Rattle.std.proofs.lemmas.List.{drop_all}
 use Rattle.std.proofs.lemmas.Str.Pattern.{split_once_first}

@@ -1,3 +1,4 @@
+-- The loop invariants of `help::help_of`.
 use Rattle.std.proofs.Common.{length}
 use Rattle.cert_tool.proofs.help.+help_of.Given as goal
 

@@ -1,3 +1,4 @@
+-- Goals of `json_texts::escaped_text` that the checker doesn't prove by itself.
 use Rattle.std.proofs.Common.{sym, ◌∙◌, append_assoc, append-nil}
 use Rattle.std.proofs.lemmas.Str.{IsUtf8-past_char}
 use Rattle.cert_tool.proofs.JsonSteps.{escaped_text-empty, escaped_text-step}

@@ -1,4 +1,4 @@
--- The pair in front is of the name, or the name is looked for behind it.
+-- The pair in front is of the name, or the name is looked for after it.
 use Rattle.std.proofs.Common.{refl}
 use Rattle.std.proofs.lemmas.Bool.Decides.{Decides-eqb}
 use Rattle.std.proofs.lemmas.Slice.Eq.{slice_eq-Decides}

@@ -1,4 +1,4 @@
--- Octets whose text isn't UTF-8 are no request; of a text that is the lines are obeyed.
+-- Bytes whose text isn't UTF-8 aren't a request; of a text that is the lines are obeyed.
 use Rattle.std.proofs.Common.{List, ℕ, Bor, map, inl, inr, refl, ap, ◌∙◌}
 use Rattle.cert_tool_explain.specs.DeskIo.Devices.{sink}
 use Rattle.cert_tool.specs.Serving.{sent_inputs, words_in}

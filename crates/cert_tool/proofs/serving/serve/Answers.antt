@@ -1,4 +1,4 @@
--- The next reply goes out behind those so far, or what ends the run is told.
+-- The next reply goes out after those so far, or what ends the run is reported.
 use Rattle.std.proofs.Common.{[], inl, inr, refl, subst}
 use Rattle.cert_tool_explain.specs.DeskIo.Devices.{sink}
 use Rattle.cert_tool_explain.specs.DeskIo.declared.frame_error.FrameError.TheVariants as errors

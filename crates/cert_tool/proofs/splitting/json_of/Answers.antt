@@ -1,3 +1,4 @@
+-- Goals of `splitting::json_of` that the checker doesn't prove by itself.
 use Rattle.std.proofs.Common.{◌≡◌, ℕ, suc, ◌+◌, List, ◌++◌, string_bytes, ap, sym, ◌∙◌, add-one, append_assoc}
 use Rattle.cert_tool_explain.specs.CertCertificates.Certificates.{PlainCertificate}
 use Rattle.cert_tool.specs.Splitting.{comma_before, json_at, json_places_below}

@@ -1,3 +1,4 @@
+-- Goals of `splitting::reversed` that the checker doesn't prove by itself.
 use Rattle.std.proofs.Common.{rules, ◌∙◌}
 use Rattle.cert_tool_explain.proofs.DeskChecking.PlaceLaws.{entry_at}
 use Rattle.cert_tool.proofs.SplitLaws.{reversed_more}

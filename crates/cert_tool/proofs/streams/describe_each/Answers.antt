@@ -1,3 +1,4 @@
+-- Goals of `streams::describe_each` that the checker doesn't prove by itself.
 use Rattle.std.proofs.Common.{inl}
 use Rattle.cert_tool.proofs.streams.describe_each.Goals as goal
 

@@ -1,3 +1,4 @@
+-- Goals of `streams::split` that the checker doesn't prove by itself.
 use Rattle.std.proofs.Common.{inl, subst}
 use Rattle.cert_tool_explain.specs.DeskIo.Devices.{sink}
 use Rattle.cert_tool.specs.TaskRuns.{IsSplitAt}

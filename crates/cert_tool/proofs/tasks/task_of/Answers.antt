@@ -1,3 +1,4 @@
+-- Goals of `tasks::task_of` that the checker doesn't prove by itself.
 use Rattle.std.proofs.Common.{rules, refl, sym}
 use Rattle.cert_tool.proofs.tasks.task_of.Goals as goal
 

@@ -1,3 +1,4 @@
+-- Goals of `telling::tell` that the checker doesn't prove by itself.
 use Rattle.cert_tool_explain.specs.DeskIo.Devices.{sink}
 use Rattle.cert_tool.proofs.ToldLaws.{memory_reason}
 use Rattle.cert_tool.proofs.telling.tell.Goals as goal

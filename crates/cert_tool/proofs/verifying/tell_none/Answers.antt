@@ -1,3 +1,4 @@
+-- Goals of `verifying::tell_none` that the checker doesn't prove by itself.
 use Rattle.std.proofs.Common.{inl, sym, ◌∙◌, subst}
 use Rattle.cert_tool_explain.specs.DeskIo.declared.exit_status.ExitStatus.TheVariants as statuses
 use Rattle.cert_tool_explain.specs.DeskIo.Devices.{sink}

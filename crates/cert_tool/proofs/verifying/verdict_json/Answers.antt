@@ -1,3 +1,4 @@
+-- Goals of `verifying::verdict_json` that the checker doesn't prove by itself.
 use Rattle.std.proofs.Common.{rules, append_assoc}
 use Rattle.cert_tool.proofs.verifying.verdict_json.Goals as goal
 

@@ -1,3 +1,4 @@
+-- Goals of `words::write_both` that the checker doesn't prove by itself.
 use Rattle.cert_tool_explain.specs.DeskIo.Devices.{sink}
 use Rattle.cert_tool.proofs.ToldLaws.{OnErr-so, second_cut}
 use Rattle.cert_tool.proofs.words.write_both.Goals as goal

@@ -1,3 +1,4 @@
+-- The loop invariants of `tasks::Command::keeps_each`.
 use Rattle.std.proofs.Common.{length}
 use Rattle.cert_tool.proofs.tasks.Command.+keeps_each.Given as goal
 
