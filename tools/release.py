@@ -1,35 +1,41 @@
 #!/usr/bin/env python3
-"""Makes a release of what is proved, lays its libraries, confirms it, and proves crates.
+"""Makes, installs, unpacks and confirms releases, and proves crates in advance.
 
-    release.py make [--built CLONE] FOLDER          runs CI in a new clone of what is committed,
-                                                    and writes FOLDER of what it built; or takes
-                                                    what CI left in CLONE, a clean clone
-    release.py unpack RELEASE [FOLDER]              lays the libraries where `rt` looks for them in
-                                                    the repository FOLDER (this one), so that it
-                                                    proves none of them again
-    release.py confirm [--kept] RELEASE [CRATE..]   proves it from nothing, and compares what comes
-                                                    of it, byte by byte
-    release.py prove CRATE..                        proves crates, with all that they stand on, as
-                                                    many at once as there are processors
+    release.py make [--built CLONE] FOLDER          clones the last commit, runs CI there, and
+                                                    writes the release to FOLDER; with --built it
+                                                    takes the results of CI in CLONE
+    release.py install [--from RELEASE] PREFIX      installs the programs with their scripts, man
+                                                    pages and completion, and from a release also
+                                                    the libraries for C, Rust and Python
+    release.py unpack RELEASE [FOLDER]              installs the proved libraries in the repository
+                                                    FOLDER (default: this one), so that `rt`
+                                                    doesn't prove them again
+    release.py confirm [--kept] RELEASE [CRATE...]  proves the release again from its commit, and
+                                                    compares every file
+    release.py prove CRATE...                       proves crates and their dependencies, with all
+                                                    processors
 
-tools/README.md says what is in a release, and what its sums are.
+tools/README.md explains what a release contains. The status is 0 on success, 1 if something
+differs or failed, and 2 if an argument is wrong.
 
-make: two clones of one commit give the same bytes, file by file. The last line has the sum of SUMS:
-whoever is told that number knows all others.
+make prints the checksum of SUMS last. Publish it: SUMS has the checksum of every other file. Two
+releases of one commit have the same bytes.
 
-unpack compares the sum of each file with SUMS, the kit at hand with the one that proved, the
-commit, and the stamp of each crate's texts; what differs is told, and is proved anew by `rt` where
-it is a text. What was built over an exchanged library goes. The status is 0 where all are laid.
+install verifies the checksums of a release first, and doesn't need the kit. Without --from it
+installs what was built in this repository; a program that isn't built is named and left out.
 
-confirm: RELEASE is the folder, or one that has PROVED and SUMS of it alone. It clones the commit,
-runs `rt ci --anew` there without mutants over these crates and all below them (none named: all),
-and compares each; then what others link, which gcc, binutils and Python of this machine make
-(others may make other bytes), and the licences. With --kept it confirms only what this machine
-proved, and can be interrupted and resumed. The clone is in TMPDIR, of some 10 GB. The status is 0
-where all are the same.
+unpack verifies the checksum of each file, the version of the kit, and the commit. If the sources of
+a crate differ from the release, it says so, and `rt` will prove that crate again. Results that
+depend on a replaced library are deleted.
 
-prove: `rt ci` proves the crates in a copy, and libraries come from there to where `rt` looks for
-them. It can be interrupted and resumed: the kit keeps beside itself what was proved.
+confirm clones the commit of RELEASE, which may be a folder with only its files PROVED and SUMS. It
+runs `rt ci --anew` for these crates and their dependencies (default: all), without mutants, and
+compares each library and program, the bindings and the licences. The bindings depend on gcc,
+binutils and Python of this machine. With --kept it trusts what this machine proved before, and can
+be interrupted and resumed. The clone takes some 10 GB in TMPDIR.
+
+prove runs `rt ci` in a copy of the crates, and installs the libraries here. It can be interrupted
+and resumed, because the kit remembers what was proved.
 """
 
 import collections
@@ -53,16 +59,28 @@ LIBRARIES = "libraries.tar.zst"
 PROGRAMS = {name: f"programs/{name}" for name in ("cert_desk_program", "cert_tool")}
 ARCHIVES = {name: f"archives/lib{name}.a" for name in ("cert_desk_c", "cert_desk_issuing_c")}
 PLACES = PROGRAMS | ARCHIVES
-# What is alike in one library stands in those above it again: so far back zstd looks for it.
+# Files that are installed beside the programs, by their places in a release and under a prefix.
+INSTALLED = {
+    "programs/cert_desk_program": "bin/cert_desk",
+    "programs/cert_tool": "bin/cert_tool",
+    "examples/answer.py": "bin/cert_tool_answer",
+    "examples/verify_pem.py": "bin/cert_tool_verify_pem",
+    "docs/man/cert_desk.1": "share/man/man1/cert_desk.1",
+    "docs/man/cert_tool.1": "share/man/man1/cert_tool.1",
+    "docs/man/cert_tool.bash": "share/bash-completion/completions/cert_tool",
+    "LICENSE-APACHE": "share/doc/wurstdrape/LICENSE-APACHE",
+    "LICENSE-MIT": "share/doc/wurstdrape/LICENSE-MIT",
+}
+# A library repeats what is in the libraries below it, so zstd looks back this far.
 ZSTD = "zstd -q -3 --long=30 -T1"
 
 
-# What stands in PROVED of a crate; its kind is library, program or archive.
+# The line of a crate in PROVED. Its kind is library, program or archive.
 Crate = collections.namedtuple("Crate", "kind stamp sum")
 
 
 class Proved(collections.namedtuple("Proved", "kit version commit crates")):
-    """What stands in PROVED."""
+    """The contents of PROVED."""
 
     def __str__(self):
         rows = [f"{head} {value}" for head, value in zip(self._fields[:3], self)]
@@ -70,7 +88,7 @@ class Proved(collections.namedtuple("Proved", "kit version commit crates")):
         return "\n".join(rows) + "\n"
 
     def libraries(self, names):
-        """Those of these names that are libraries."""
+        """Returns those of these names that are libraries."""
         return [it for it in names if it in self.crates and self.crates[it].kind == "library"]
 
 
@@ -82,15 +100,15 @@ def stop(why):
 
 
 def asked(*words, folder=sources.TOP):
-    """What a command prints; nothing where it fails."""
+    """Returns what a command prints, or nothing if it fails."""
     if not shutil.which(words[0]):
-        stop(f"there is no `{words[0]}`")
+        stop(f"command not found: {words[0]}")
     ran = subprocess.run(words, cwd=folder, capture_output=True, text=True)
     return ran.stdout.strip() if ran.returncode == 0 else ""
 
 
 def run(*words, folder, why, **how):
-    """Runs a command; where it fails, prints what it said last, and stops."""
+    """Runs a command. If it fails, prints its last lines, and stops."""
     how |= {"stdout": subprocess.PIPE, "stderr": subprocess.STDOUT, "errors": "replace"}
     how.setdefault("input", "")
     ran = subprocess.run([str(it) for it in words], cwd=folder, text=True, **how)
@@ -100,31 +118,32 @@ def run(*words, folder, why, **how):
 
 
 def stamps(folder):
-    """The stamp of each crate in the repository of a folder, as the kit makes it."""
+    """Returns the kit's stamp of each crate in a repository."""
     sys.dont_write_bytecode = True
-    rt = shutil.which("rt") or stop("there is no `rt`")
+    rt = shutil.which("rt") or stop("command not found: rt (add the kit's bin/ to PATH)")
     path = pathlib.Path(rt).resolve().parent / "rtlib.py"
     loader = importlib.machinery.SourceFileLoader("rtlib", str(path))
     rtlib = importlib.util.module_from_spec(importlib.util.spec_from_loader("rtlib", loader))
     sys.modules["rtlib"] = rtlib
     loader.exec_module(rtlib)
-    # Of themselves they are computed once for each path from a crate to another.
+    # Without a cache they are computed once for each path from one crate to another.
     for name in ("below", "stamp"):
         setattr(rtlib.Crate, name, functools.cache(getattr(rtlib.Crate, name)))
     return {crate.name: crate.stamp() for crate in rtlib.crates_below(os.path.realpath(folder))}
 
 
 def same_kit(proved):
-    """Stops where the kit at hand isn't the one that proved a release."""
+    """Stops if this kit isn't the one that proved the release."""
     here = asked("rt", "version")
     if here != proved.kit:
-        stop(f"'{proved.kit}' proved this, the kit at hand is '{here}': prove anew")
+        stop(f"the release needs the kit '{proved.kit}', and this is '{here}'; use that kit, or "
+             "prove the crates here with `./x release prove`")
 
 
 def gate(folder, crates, *words):
-    """Runs `rt ci` in a clone of these crates, and prints how far it is."""
-    log, last, began = tempfile.mkstemp(prefix="gate-", suffix=".log")[1], "", time.time()
-    print(f"{len(crates)} crates; the log of the gate is {log}", flush=True)
+    """Runs `rt ci` in a clone of these crates, and prints its progress."""
+    log, last, began = tempfile.mkstemp(prefix="ci-", suffix=".log")[1], "", time.time()
+    print(f"{len(crates)} crates; the log is {log}", flush=True)
     how = {"stdin": subprocess.DEVNULL, "stdout": subprocess.PIPE, "stderr": subprocess.STDOUT}
     command = ["rt", "ci", *words]
     with open(log, "w") as opened, subprocess.Popen(command, cwd=folder, text=True, **how) as ran:
@@ -135,10 +154,10 @@ def gate(folder, crates, *words):
                 print(f"{(time.time() - began) / 60:4.0f} min  {last}", flush=True)
     print(last)
     if ran.returncode or not re.fullmatch(r"\d+ passed, 0 failed", last):
-        stop("the gate did not pass")
+        stop(f"CI failed; its log is {log}")
 
 
-# Sums.
+# Checksums.
 
 
 def sum_of(path):
@@ -146,102 +165,101 @@ def sum_of(path):
 
 
 def listing(folder):
-    """What `sha256sum` prints of the files of a folder, in the order of their paths."""
+    """Returns the output of `sha256sum` for the files of a folder, sorted by path."""
     files = (path for path in pathlib.Path(folder).rglob("*") if path.is_file())
     paths = sorted(str(path.relative_to(folder)) for path in files)
     return "".join(f"{sum_of(folder / path)}  {path}\n" for path in paths)
 
 
 def total_of(folder):
-    """The sum of a folder's files."""
+    """Returns one checksum for all files of a folder."""
     return hashlib.sha256(listing(folder).encode()).hexdigest()
 
 
 def sums(text):
-    """The sum of each file in such a listing, by its path."""
+    """Returns the checksum of each path in the output of `sha256sum`."""
     rows = (row.partition("  ") for row in text.removesuffix("\n").split("\n"))
     return {path: digest for digest, _, path in rows}
 
 
 def read(release, whole=True):
-    """PROVED of a release; it stops at the first file that hasn't the sum of SUMS, or of PROVED.
+    """Returns PROVED of a release. Stops at the first file that differs from SUMS or PROVED.
 
-    Unless it has to be whole, others than PROVED may not be there."""
+    If `whole` is false, only PROVED and SUMS are required."""
     if not (release / "SUMS").is_file():
-        stop(f"{release} is no release: it has no file SUMS")
+        stop(f"{release} isn't a release: it has no file SUMS")
     wanted, there = sums((release / "SUMS").read_text(errors="replace")), sums(listing(release))
     del there["SUMS"]
     for path in sorted(wanted.keys() | there.keys()):
         if there.get(path) != wanted.get(path) and (whole or path in there or path == "PROVED"):
-            told = there.get(path, "none: it is not there"), wanted.get(path, "none")
-            stop("{}: its sum is {}, in SUMS it is {}".format(path, *told))
+            why = "isn't listed in" if path not in wanted else "differs from its checksum in"
+            stop(f"{release / path} {why if path in there else 'is missing, but listed in'} SUMS")
     rows = [row.split(" ") for row in (release / "PROVED").read_text().splitlines()]
     crates = {name: Crate(kind, *more) for kind, name, *more in rows[3:]}
     proved = {PLACES[it]: crates[it].sum for it in PLACES if it in crates}
     for path in sorted(wanted.keys() | proved.keys()):
         both = wanted.get(path, "none"), proved.get(path, "none")
         if path.startswith(("programs/", "archives/")) and both[0] != both[1]:
-            stop("{}: SUMS has {}, PROVED {}".format(path, *both))
+            stop("{}: SUMS has {}, but PROVED has {}".format(path, *both))
     return Proved(*(" ".join(row[1:]) for row in rows[:3]), crates)
 
 
-# Libraries, packed and laid.
+# Packing and installing libraries.
 
 
 def place(crates, name):
-    """Where `rt` looks for a built library."""
+    """Returns the folder in which `rt` looks for a built library."""
     return crates / name / "out/rlib"
 
 
 def packed(path, crates, names):
-    """Packs libraries so that the same files give the same octets."""
+    """Packs libraries so that the same files give the same bytes."""
     files = [it for name in names
              for it in sorted((place(crates, name) / f"{name}.rlib").rglob("*")) if it.is_file()]
     run("tar", "--create", "--format=gnu", "--mtime=@0", "--mode=644", "--owner=0", "--group=0",
         "--numeric-owner", "--transform=s,/out/rlib/,/,", "--verbatim-files-from", "-I", ZSTD,
-        "-f", path, "-T", "-", folder=crates, why="the libraries are not packed",
+        "-f", path, "-T", "-", folder=crates, why="the libraries can't be packed",
         input="".join(f"{it.relative_to(crates)}\n" for it in files))
 
 
 def unpacked(release, proved, names, crates):
-    """Unpacks libraries of a release where `rt` looks for them, and stops at the first that hasn't
-    the sum of PROVED."""
+    """Unpacks libraries of a release where `rt` looks for them, and verifies their checksums."""
     if names:
         run("tar", "--extract", "--touch", "--transform=s,/,/out/rlib/,", "-I", ZSTD, "-f",
             (release / LIBRARIES).resolve(), *names, folder=crates,
-            why=f"{LIBRARIES} cannot be read, or has not all libraries of PROVED")
+            why=f"{LIBRARIES} can't be read, or lacks a library of PROVED")
     for name in names:
         if total_of(place(crates, name) / f"{name}.rlib") != proved.crates[name].sum:
-            stop(f"{name}: what {LIBRARIES} has of it has not the sum of PROVED")
+            stop(f"{name}: checksum differs from PROVED: the release is damaged")
 
 
 def clear(crates, below, libraries):
-    """Removes these libraries, and what was built over them: over others it is of no use."""
+    """Removes these libraries, and what was built with them."""
     for name in below:
         if set(libraries).intersection(sources.closure([name], below)):
             shutil.rmtree(place(crates, name), ignore_errors=True)
 
 
 def lay(release, folder):
-    """Lays the libraries of a release where `rt` looks for them in a folder's repository.
+    """Installs the libraries of a release in a repository, and prints what differs.
 
-    Says what differs, and how many it laid. Gives 0 if these are all that the folder has."""
+    Returns 0 if all were installed."""
     began, proved = time.time(), read(release)
     same_kit(proved)
     commit = asked("git", "rev-parse", "HEAD")
     if commit != proved.commit:
-        print(f"the release is of commit {proved.commit[:12]}; this is {commit[:12] or 'none'}")
+        print(f"the release is of commit {proved.commit[:12]}, and this is {commit[:12] or 'none'}")
     crates, here, below = folder / "crates", stamps(folder), sources.dependencies(folder)
     there = proved.libraries(here)
     same = [name for name in there if here[name] == proved.crates[name].stamp]
     others = [name for name in there if name not in same]
     if others:
-        print(f"rt proves anew, as texts are not those of the release: {' '.join(others)}")
+        print(f"these crates differ from the release, so rt proves them again: {' '.join(others)}")
     clear(crates, below, same)
     unpacked(release, proved, same, crates)
     for name in same:
         (place(crates, name) / "stamp").write_text(proved.crates[name].stamp)
-    print(f"{len(same)} of {len(there)} libraries laid in {time.time() - began:.0f} seconds")
+    print(f"{len(same)} of {len(there)} libraries installed in {time.time() - began:.0f} seconds")
     return int(bool(others))
 
 
@@ -249,38 +267,38 @@ def lay(release, folder):
 
 
 def bindings(clone, folder):
-    """Builds the archives over the libraries that the gate left, and of them what others link."""
-    said = "bindings/build.sh and tools/wheel.py did not make what others link"
+    """Builds the bindings from the libraries that CI left."""
+    said = "bindings/build.sh or tools/wheel.py failed"
     run(clone / "bindings/build.sh", folder, "--gate", folder=clone, why=said)
     run(clone / "tools/wheel.py", folder, folder, folder=clone, why=said)
-    # The folder may be moved: pkg-config knows where its files lie.
+    # pkg-config computes the paths, so the folder can be moved.
     for found in folder.glob("*.pc"):
         found.write_text(found.read_text().replace(str(folder), "${pcfiledir}"))
-    # What reads files of the repository is of no use outside it.
+    # Files that read the repository are of no use outside it.
     left = shutil.ignore_patterns("target", "tests", "mutated.rs")
     shutil.copytree(clone / "bindings/rust", folder / "rust", ignore=left)
 
 
 def libraries_of(clone, names, stamps):
-    """What stands in PROVED of libraries that were built in a clone, once all fit together."""
+    """Returns the lines of libraries for PROVED, after checking that they were built together."""
     formats = {}
     for name in names:
         library = place(clone / "crates", name) / f"{name}.rlib"
         made, stamp = library / "format", library.parent / "stamp"
         if not made.is_file():
-            stop(f"{name} is not built in {clone}: run the gate there")
+            stop(f"{name} isn't built in {clone}: run .ci/run there")
         if stamp.is_file() and stamp.read_text() != stamps[name]:
-            stop(f"{name} was built of other texts than those of {clone}")
+            stop(f"{name} was built from other sources than those of {clone}: run .ci/run there")
         for below, over in re.findall(r"^over (\w+) (\S+)$", made.read_text(), re.M):
             if formats.get(below, over) != over:
-                stop(f"{name} was built over another {below} than the one that is there")
+                stop(f"{name} was built with another {below}: run .ci/run in {clone}")
         formats[name] = sum_of(made)
         yield name, Crate("library", stamps[name], total_of(library))
 
 
 def write(folder, clone, libraries):
-    """Writes a release of what the gate built in a clone, but for its libraries and SUMS; gives
-    what stands in PROVED."""
+    """Writes a release from the results of CI in a clone, except its libraries and SUMS. Returns
+    the contents of PROVED."""
     crates, made = sources.dependencies(clone), stamps(clone)
     found = dict(libraries_of(clone, libraries, made))
     if not ARCHIVES.keys().isdisjoint(crates):
@@ -290,12 +308,13 @@ def write(folder, clone, libraries):
         if name in crates:
             file = clone / "crates" / name / "out" / pathlib.Path(target).name
             if not file.is_file():
-                stop(f"{name} is not built in {clone}: run the gate there")
+                stop(f"{name} isn't built in {clone}: run .ci/run there")
             shutil.copy(file, folder / target)
             kind = "program" if name in PROGRAMS else "archive"
             found[name] = Crate(kind, made[name], sum_of(file))
-    for licence in clone.glob("LICENSE-*"):
-        shutil.copy(licence, folder)
+    for path in INSTALLED.keys() - PROGRAMS.values():
+        (folder / path).parent.mkdir(parents=True, exist_ok=True)
+        shutil.copy(clone / path, folder / path)
     commit = asked("git", "rev-parse", "HEAD", folder=clone)
     proved = Proved(asked("rt", "version"), sources.version(clone), commit, found)
     (folder / "PROVED").write_text(str(proved))
@@ -305,9 +324,9 @@ def write(folder, clone, libraries):
 def make(words):
     folder, source = words.folder.resolve(), (words.built or sources.TOP).resolve()
     if folder.exists() or not folder.parent.is_dir():
-        stop(f"{folder} is there, or there is no folder {folder.parent}")
+        stop(f"{folder} already exists" if folder.exists() else f"{folder.parent} doesn't exist")
     if asked("git", "status", "--porcelain", folder=source):
-        stop(f"{source} has changes that are not committed")
+        stop(f"{source} has uncommitted changes")
     with tempfile.TemporaryDirectory(dir=folder.parent) as room:
         clone, new = pathlib.Path(room) / "clone", pathlib.Path(room) / "release"
         if words.built:
@@ -325,14 +344,53 @@ def make(words):
         others = len(proved.crates) - len(libraries)
         print(f"{len(libraries)} libraries, {others} programs and archives, {size:.0f} MB")
         total = sum_of(new / "SUMS")
-        print(f"SUMS of {proved.version}, commit {proved.commit[:12]}: {total}")
+        print(f"checksum of SUMS ({proved.version}, commit {proved.commit[:12]}): {total}")
         new.rename(folder)
+    return 0
+
+
+# install
+
+
+def bindings_of(release):
+    """Returns the files of the bindings, with their paths below the prefix."""
+    places = {".h": "include", ".a": "lib", ".so": "lib", ".pc": "lib/pkgconfig",
+              ".whl": "share/wurstdrape"}
+    for path in sorted((release / "bindings").glob("*")):
+        if path.suffix in places:
+            yield path, f"{places[path.suffix]}/{path.name}"
+
+
+def install(words):
+    release = words.release or sources.TOP
+    if words.release:
+        read(release)
+    found = [(release / path, place) for path, place in INSTALLED.items()]
+    if not words.release:
+        built = {PROGRAMS[it]: sources.CRATES / it / "out" / it for it in PROGRAMS}
+        found = [(built.get(path, release / path), place) for path, place in INSTALLED.items()]
+    missing = [path for path, place in found if place == "bin/cert_tool" and not path.is_file()]
+    if missing:
+        stop(f"{missing[0]} isn't built: use --from RELEASE, or `./x test` (about 3 hours)")
+    for path, place in [*found, *(bindings_of(release) if words.release else [])]:
+        target = words.prefix / place
+        if path.is_file():
+            target.parent.mkdir(parents=True, exist_ok=True)
+            shutil.copy(path, target)
+            target.chmod(0o755 if place.startswith("bin/") else 0o644)
+            print(target)
+        elif place.startswith("bin/"):
+            print(f"release: {path} isn't built, so it is left out", file=sys.stderr)
+    for path in sorted((words.prefix / "lib/pkgconfig").glob("wurstdrape*.pc")):
+        text = path.read_text().replace("prefix=${pcfiledir}", "prefix=${pcfiledir}/../..")
+        text = text.replace("libdir=${prefix}\n", "libdir=${prefix}/lib\n")
+        path.write_text(text.replace("includedir=${prefix}\n", "includedir=${prefix}/include\n"))
     return 0
 
 
 def unpack(words):
     if not (words.folder / "crates.txt").is_file():
-        stop(f"{words.folder} is no repository: it has no crates.txt")
+        stop(f"{words.folder} isn't a repository of crates: it has no crates.txt")
     return lay(words.release, words.folder)
 
 
@@ -340,17 +398,17 @@ def unpack(words):
 
 
 def kept_rows(top, names):
-    """The text of a repository's crates.txt that is of these crates."""
+    """Returns the lines of a repository's crates.txt for these crates."""
     return "".join(f"{row}\n" for name, row in sources.rows(top).items() if name in names)
 
 
 def cloned(clone, proved, names):
-    """Clones the commit, with these crates and those below them alone; gives their names."""
+    """Clones the commit with only these crates and their dependencies, and returns their names."""
     asked("git", "clone", "-q", str(sources.TOP), str(clone))
     asked("git", "checkout", "-q", proved.commit, folder=clone)
     here = asked("git", "rev-parse", "HEAD", folder=clone), sources.version(clone)
     if here != (proved.commit, proved.version):
-        stop(f"this repository has no commit {proved.commit} of {proved.version}")
+        stop(f"this repository has no commit {proved.commit} of version {proved.version}")
     # The archives are built together.
     names = [*names, *([] if ARCHIVES.keys().isdisjoint(names) else ARCHIVES)]
     wanted = sources.closure(names or proved.crates, sources.dependencies(clone))
@@ -378,11 +436,12 @@ def confirm(words):
         same = {name: made.get(name) == proved.crates[name] for name in wanted}
         if not ARCHIVES.keys().isdisjoint(wanted):
             texts = listing(new), (release / "SUMS").read_text()
-            rows = [re.findall(r"^.*  (?:bindings/|LICENSE-).*$", text, re.M) for text in texts]
-            same["bindings, licences"] = rows[0] == rows[1]
+            beside = r"^.*  (?:bindings/|examples/|docs/|LICENSE-).*$"
+            rows = [re.findall(beside, text, re.M) for text in texts]
+            same["bindings, scripts, licences"] = rows[0] == rows[1]
     for name, is_same in same.items():
-        print(f"{name}: {'the same, octet by octet' if is_same else 'differs'}")
-    print(f"{sum(same.values())} of {len(same)} the same")
+        print(f"{name}: {'the same bytes' if is_same else 'differs'}")
+    print(f"{sum(same.values())} of {len(same)} are the same")
     return int(not all(same.values()))
 
 
@@ -390,14 +449,14 @@ def confirm(words):
 
 
 def state_of(library, name):
-    """What tells a built library from others of its name."""
+    """Returns what distinguishes a built library from others of its name."""
     parts = library / "stamp", library / f"{name}.rlib/format"
     return [part.read_text() for part in parts if part.is_file()]
 
 
 def lay_made(room, names):
-    """Lays libraries that were made in a folder where `rt` looks for them, but for those that lie
-    there; gives how many."""
+    """Installs the libraries that were built in a folder, unless they are installed already.
+    Returns their number."""
     crates, found, laid = sources.dependencies(), stamps(room), {}
     for name in names:
         made, library = (place(it, name) for it in (room / "crates", sources.CRATES))
@@ -415,7 +474,7 @@ def lay_made(room, names):
 def prove(words):
     unknown = [word for word in words.crates if word not in sources.dependencies()]
     if unknown:
-        stop(f"no crate {unknown[0]}")
+        stop(f"this repository has no crate {unknown[0]}")
     wanted, left = sources.closure(words.crates), shutil.ignore_patterns("out", "must-fail")
     with tempfile.TemporaryDirectory() as room:
         room = pathlib.Path(room)
@@ -425,19 +484,22 @@ def prove(words):
         shutil.copy(sources.TOP / "HANDLES", room)
         (room / ".git").mkdir()
         gate(room, wanted)
-        print(f"{lay_made(room, wanted)} libraries laid")
+        print(f"{lay_made(room, wanted)} libraries installed")
     return 0
 
 
 def arguments():
     words = sources.arguments(__doc__)
-    verbs = words.add_subparsers(required=True, metavar="VERB")
+    verbs = words.add_subparsers(required=True, dest="command")
     of = {}
-    for verb in (make, unpack, confirm, prove):
-        of[verb] = verbs.add_parser(verb.__name__)
+    for verb in (make, install, unpack, confirm, prove):
+        form = {"description": __doc__, "formatter_class": words.formatter_class}
+        of[verb] = verbs.add_parser(verb.__name__, **form)
         of[verb].set_defaults(verb=verb)
     of[make].add_argument("--built", type=pathlib.Path, metavar="CLONE")
     of[make].add_argument("folder", type=pathlib.Path, metavar="FOLDER")
+    of[install].add_argument("--from", type=pathlib.Path, metavar="RELEASE", dest="release")
+    of[install].add_argument("prefix", type=pathlib.Path, metavar="PREFIX")
     of[confirm].add_argument("--kept", action="store_true")
     for verb in (unpack, confirm):
         of[verb].add_argument("release", type=pathlib.Path, metavar="RELEASE")
