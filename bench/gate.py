@@ -1,14 +1,13 @@
 #!/usr/bin/env python3
-"""Runs `rt ci`, and prints the processor minutes that it took, by crate and kind.
+"""Runs `rt ci`, and prints its processor time in minutes, by crate and kind.
 
-    bench/gate.py [LOG]     at the top of a clean clone; what CI prints goes to LOG (none: to a file
-                            that is named), the table to standard output
+    bench/gate.py [LOG]     run it at the top of a clean clone; the output of CI is written to LOG
+                            (default: a temporary file), and the table to standard output
 
-The total is what the system counts for the gate and all that it started. The table is from samples
-of the running checks, two seconds apart, each told by its words: a proof, the proof of a crate's
-tests, the check of an edit, a program (its proof, and what two compilers make of it). What is left
-of the total is start: `rt` itself, the programs and tests as they run, and what ended between two
-samples.
+The total is that of `rt ci` and all its processes. The table comes from samples of the running
+checks, every two seconds, by kind: proofs, proofs of tests (`tests`), mutants (`edits`), and
+programs, which are proved and compiled. The rest of the total is `rt` itself, running programs and
+tests, and checks that ended between two samples.
 """
 
 import collections
@@ -23,13 +22,13 @@ import time
 KINDS = ("proof", "tests", "edits", "programs")
 
 
-# A process: its parent, its processor seconds with those of its children that ended, and of a check
-# its crate, its kind, and when it began.
+# A process: its parent, its processor seconds with those of its ended children, and for a check its
+# crate, its kind, and when it began.
 Process = collections.namedtuple("Process", "parent seconds check")
 
 
 def process_of(path):
-    """The process of a folder of /proc."""
+    """Returns the process of a folder of /proc."""
     words = (path / "cmdline").read_text(errors="replace").split("\0")
     numbers = (path / "stat").read_text(errors="replace").rpartition(")")[2].split()
     seconds = sum(map(int, numbers[11:15])) / os.sysconf("SC_CLK_TCK")
@@ -45,7 +44,7 @@ def process_of(path):
 
 
 def checks(gate):
-    """The checks that the gate runs, each with its seconds and those of the copies of itself."""
+    """Yields the checks that `rt ci` runs, each with its seconds and those of its copies."""
     found = {}
     for path in pathlib.Path("/proc").glob("[0-9]*"):
         try:
@@ -66,7 +65,7 @@ def checks(gate):
 
 
 def run(log):
-    """Runs the gate; gives its status, and the minutes of each crate by kind."""
+    """Runs `rt ci`. Returns its status, and the minutes of each crate by kind."""
     seen, table = {}, collections.defaultdict(collections.Counter)
     how = {"stdin": subprocess.DEVNULL, "stdout": log, "stderr": subprocess.STDOUT}
     gate = subprocess.Popen(["rt", "ci"], **how)
@@ -85,10 +84,10 @@ def row(name, minutes):
 
 
 def main(words):
-    if len(words) > 1 or words[:1] == ["--help"]:
-        print(__doc__)
-        return 2
-    path = words[0] if words else tempfile.mkstemp(prefix="gate-", suffix=".log")[1]
+    if len(words) > 1 or words and words[0].startswith("-"):
+        print(__doc__.strip())
+        return 2 * (words != ["--help"])
+    path = words[0] if words else tempfile.mkstemp(prefix="ci-", suffix=".log")[1]
     began = time.time()
     with open(path, "w") as log:
         status, table = run(log)
@@ -103,7 +102,7 @@ def main(words):
         row(crate, table[crate])
     sums = sum(table.values(), collections.Counter())
     row("all", sums)
-    print(f"{'start, and between':34}{total - sums.total():10.1f}")
+    print(f"{'the rest':34}{total - sums.total():10.1f}")
     return status
 
 

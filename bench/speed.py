@@ -1,25 +1,23 @@
 #!/usr/bin/env python3
-"""Measures what reading, judging, writing and showing cost, and writes bench/SPEED.md.
+"""Measures what decoding, validating, encoding and printing cost, and writes bench/SPEED.md.
 
-    bench/speed.py [--programs FOLDER] [--built CLONE] [PART..]
+    bench/speed.py [--programs FOLDER] [--built CLONE] [PART...]
 
-Each PART prints what it counts, and only a run of all of them writes the page:
+Each PART prints what it counts. A run of all parts writes the page and bench/speed.txt:
 
-  roots    reads the roots of ca-certificates with x509_cert and with mbedTLS, writes them again,
-           reads their extensions, reads them into a bundle and judges each below itself, and walks
-           their headers with a plain C loop (walk.c)
-  chains   judges a chain of four that OpenSSL makes (three authorities and a server below an RSA
-           root, the anchor), with `check` under a judge who says yes and with mbedTLS without its
-           digest and signature
-  show     shows the roots with cert_desk_listing and with OpenSSL, which prints the same parts
+  roots    decodes the roots of ca-certificates with x509_cert and with mbedTLS, encodes them again,
+           decodes their extensions, decodes them into a bundle and validates each below itself, and
+           checks their headers with a plain C loop (walk.c)
+  chains   validates a chain of four that OpenSSL makes (three CAs and a server below an RSA root,
+           the anchor), with `check` and with mbedTLS; on both sides, every signature is accepted
+  show     prints the roots with cert_desk_listing and with OpenSSL, which prints the same parts
   tool     runs `cert_tool` and `cert_desk`: describe and show each root, verify and check a chain
   pieces   reads a stream of 10,000 certificates in one piece, in pieces of 1,000 bytes and byte by
-           byte, beside a program that keeps the same certificates with a copy of their bytes
+           byte, compared with a program that keeps the certificates with a copy of their bytes
 
-Instructions are valgrind's, and calls for memory too: means by the difference of many rounds and
-one. A program of bench/PART is proved and built in a copy of the crates, which takes the libraries
-that CLONE has built (`out/rlib`); `cert_tool` and `cert_desk_program` are those of `out/`. FOLDER
-may have any of these programs instead, by their names.
+valgrind counts (bench/README.md). A program of bench/PART is proved and built in a copy of the
+crates, which takes the libraries that CLONE has built (`out/rlib`); `cert_tool` and
+`cert_desk_program` are those of `out/`. FOLDER may have any of these programs instead.
 """
 
 import argparse
@@ -43,34 +41,32 @@ import release
 PAGE = HERE / "SPEED.md"
 ROOTS = pathlib.Path("/usr/share/ca-certificates/mozilla")
 
-# The table of the page: what is counted, by which name, beside what, by which name or as a number,
-# and the most that is wanted.
+# The table of the page: the task, the name of its count, what it is compared with, the name of that
+# count (or a number), and the greatest ratio that is wanted, if there is one.
 ROWS = (
-    ("a root, read and dropped", "x509_cert, read", "by mbedTLS", "mbedTLS, read",
-     "0.65, and 10 calls"),
-    ("a root, read into a `Bundle` and judged",
-     "cert_desk_checking, read into a bundle and checked", "read", "x509_cert, read",
-     "1.34, and 13,000"),
-    ("a root, written again", "written", "by 0.10.0", 11942, "0.75"),
-    ("a chain of four, judged by `check`", "cert_desk_checking", "by mbedTLS", "mbedTLS", "0.50"),
-    ("a root, read and shown", "cert_desk_listing, read and shown", "by OpenSSL",
-     "OpenSSL, read and shown", ""),
-    ("a root, by `cert_desk show`", "show", "by 0.10.0", 52217, "0.5"),
-    ("a root, by `cert_tool describe`", "describe", "by 0.10.0", 325328, "0.5"),
-    ("a chain of four, by `cert_tool verify`", "verify", "by `check`", "check", "1.3"),
-    ("kB of a stream of 10,000, at most", "fed", "certificates, octets", "kept", "1.06"),
+    ("decode a root", "x509_cert, decoded", "mbedTLS", "mbedTLS, decoded", 0.65),
+    ("decode a root, and the extensions that rules use", "x509_cert, extensions decoded", "mbedTLS",
+     "mbedTLS, decoded", 0),
+    ("decode a root into a `Bundle`, and validate it", "bundle, decoded and validated",
+     "decoding", "x509_cert, decoded", 1.34),
+    ("encode a root", "encoded", "0.10.0", 11942, 0.75),
+    ("validate a chain of four", "cert_desk_checking", "mbedTLS", "mbedTLS", 0.5),
+    ("decode and print a root", "cert_desk_listing", "OpenSSL", "OpenSSL", 0),
+    ("`cert_desk show` of a root", "show", "0.10.0", 52217, 0.5),
+    ("`cert_tool describe` of a root", "describe", "0.10.0", 325328, 0.5),
+    ("`cert_tool verify` of a chain of four", "verify", "`check`", "check", 1.3),
 )
 
 
 def said(*words, **how):
-    """What a command prints."""
+    """Returns what a command prints."""
     words = [str(it) for it in words]
     how = {"stdout": subprocess.PIPE, "stderr": subprocess.DEVNULL, "check": True, **how}
     return subprocess.run(words, **how).stdout
 
 
 def told_by(pattern, *words):
-    """The number that valgrind, or time, tells on the error output."""
+    """Returns the number that valgrind, or time, prints to the error output."""
     ran = subprocess.run([str(it) for it in words], stdout=subprocess.DEVNULL,
                          stderr=subprocess.PIPE, text=True)
     found = re.search(pattern, ran.stderr)
@@ -87,7 +83,7 @@ def wants(*command):
 
 
 def peak(*command):
-    """The most kilobytes that the system lent a run."""
+    """Returns the most kilobytes that a run used."""
     return told_by(r"(\d+)\s*$", "/usr/bin/time", "-f", "%M", *command)
 
 
@@ -103,7 +99,7 @@ class Bench:
         self.lines.append(line)
 
     def program(self, name, folder=None, libraries=""):
-        """A program by its name; one of bench/FOLDER stands on these libraries."""
+        """Returns a program by its name. One of bench/FOLDER uses these libraries."""
         if self.programs and (self.programs / name).is_file():
             return (self.programs / name).resolve()
         if folder is None:
@@ -139,22 +135,21 @@ class Bench:
         return program
 
     def roots(self):
-        """A file of all roots, and how many there are."""
+        """Returns a file of all roots, and their number."""
         files = sorted(ROOTS.glob("*.crt"))
         der = [said("openssl", "x509", "-in", it, "-outform", "DER") for it in files]
         (self.work / "roots.der").write_bytes(b"".join(der))
         return self.work / "roots.der", len(files)
 
     def count(self, name, count, command, many=10):
-        """Counts what one of so many costs, by the difference of rounds: their number stands where
-        the command has None."""
+        """Counts what one of `count` values costs. The rounds replace None in the command."""
         def rounds(number):
             return [number if word is None else word for word in command]
 
         spent = instructions(*rounds(many + 1)) - instructions(*rounds(1))
         asked = wants(*rounds(many + 1)) - wants(*rounds(1))
         found = self.counts[name] = spent // (many * count), asked / (many * count)
-        self.say(f"{name}: {found[0]} instructions, {found[1]:.2f} calls for memory")
+        self.say(f"{name}: {found[0]} instructions, {found[1]:.2f} allocations")
 
 
 def roots(bench):
@@ -166,24 +161,24 @@ def roots(bench):
     file, count = bench.roots()
     bench.say(f"{count} roots")
     for name, *command in (
-        ("x509_cert, read", reads),
-        ("x509_cert, read by a program that lends it", uses, "read"),
-        ("x509_cert, read and written", uses, "write"),
-        ("x509_cert, read and weighed", uses, "weigh"),
-        ("cert_desk_checking, read into a bundle", checks, "read"),
-        ("cert_desk_checking, read into a bundle and checked", checks, "check"),
-        ("mbedTLS, read", mbedtls),
+        ("x509_cert, decoded", reads),
+        ("x509_cert, decoded by the program that encodes", uses, "read"),
+        ("x509_cert, decoded and encoded", uses, "write"),
+        ("x509_cert, extensions decoded", uses, "weigh"),
+        ("bundle, decoded", checks, "read"),
+        ("bundle, decoded and validated", checks, "check"),
+        ("mbedTLS, decoded", mbedtls),
         ("headers in C", walk),
     ):
         bench.count(name, count, [*command, file, None])
     read, written, lent = (
-        bench.counts[f"x509_cert, read{it}"]
-        for it in ("", " and written", " by a program that lends it")
+        bench.counts[f"x509_cert, decoded{it}"]
+        for it in ("", " and encoded", " by the program that encodes")
     )
-    bench.counts["written"] = written[0] - lent[0], written[1] - read[1]
-    bench.say(f"read and differ: {said(uses, 'write', file, 1).decode().strip()}")
-    refused = said(uses, "weigh", file, 1).decode().strip()
-    bench.say(f"read and hold an extension that is refused: {refused}")
+    bench.counts["encoded"] = written[0] - lent[0], written[1] - read[1]
+    bench.say(f"roots, and how many differ: {said(uses, 'write', file, 1).decode().strip()}")
+    rejected = said(uses, "weigh", file, 1).decode().strip()
+    bench.say(f"roots, and how many have an extension that is rejected: {rejected}")
 
 
 def chains(bench):
@@ -220,33 +215,32 @@ def show(bench):
     openssl = bench.compiled("show/openssl.c", "-lcrypto")
     file, count = bench.roots()
     ours, theirs = said(program, file, 1), said(openssl, file, 1)
-    bench.say(f"{count} roots, {len(ours)} octets of listings")
-    bench.count("cert_desk_listing, read and shown", count, [program, file, None])
-    bench.count("OpenSSL, read and shown", count, [openssl, file, None])
-    # the same names, in the same order, as OpenSSL prints them
+    bench.say(f"{count} roots, {len(ours)} bytes of listings")
+    bench.count("cert_desk_listing", count, [program, file, None])
+    bench.count("OpenSSL", count, [openssl, file, None])
+    # The same names, in the same order, as OpenSSL prints them.
     ours = re.findall(rb"(?m)^(issuer|subject) (.*)", ours)
     theirs = re.findall(rb"(?m)^(issuer|subject)=(.*)", theirs)
     differ = sum(one != other for one, other in zip(ours, theirs, strict=True))
-    bench.say(f"names that are printed otherwise: {differ}")
+    bench.say(f"names that OpenSSL prints differently: {differ}")
 
 
 def tool(bench):
     desk, tool = bench.program("cert_desk_program"), bench.program("cert_tool")
 
     def less_a_start(program, *words):
-        """The instructions of a run, and its calls for memory less those of a run that finds a
-        wrong word."""
+        """Returns the instructions of a run, and its allocations less those of a start."""
         return instructions(program, *words), wants(program, *words) - wants(program, "nothing")
 
     starts = [instructions(it, "nothing") for it in (tool, desk)]
 
     def told(what, other, one, two, per):
-        """Says what two runs cost, and keeps it less their starts."""
+        """Prints what two runs cost, and stores it less their starts."""
         bench.say(f"{what}: {one[0]} instructions{per}, {other}: {two[0]}: {one[0] / two[0]:.2f}")
         less = [run[0] - start for run, start in zip((one, two), starts)]
-        bench.say(f"less a run that finds a wrong word ({starts[0]}, {starts[1]}): "
+        bench.say(f"less a run that ends at a wrong argument ({starts[0]}, {starts[1]}): "
                   f"{less[0]}, {less[1]}: {less[0] / less[1]:.2f}")
-        bench.say(f"calls for memory less that: {one[1]:g}, {two[1]:g}")
+        bench.say(f"allocations less that: {one[1]:g}, {two[1]:g}")
         bench.counts[what], bench.counts[other] = (less[0], one[1]), (less[1], two[1])
 
     described, shown = [], []
@@ -258,7 +252,7 @@ def tool(bench):
     one, two = ([sum(it) / len(runs) for it in zip(*runs)] for runs in (described, shown))
     told("describe", "show", (int(one[0]), round(one[1], 2)), (int(two[0]), round(two[1], 2)),
          f" a root of {len(shown)}")
-    # the second order once more, without its path length
+    # The second order once more, without its path length.
     orders = (TOP / "examples/orders.txt").read_text().rstrip().split("\n\n")
     more = orders[1].replace("\npath 0", "").replace("Intermediate", "Authority")
     orders.insert(1, more.replace("serial 02", "serial 03"))
@@ -289,20 +283,17 @@ def pieces(bench):
                   "times those in one piece")
     start = peak(program, "none", whole)
     kept, *fed = (peak(program, it, whole) - start for it in ("keep", one_piece, 1000, 1))
-    bench.say(f"memory: {kept} kB for certificates and octets alone, {fed[0]} for a bundle fed in "
-              f"one piece, {fed[1]} in pieces of 1000 octets, {fed[2]} octet by octet")
+    bench.say(f"memory: {kept} kB for certificates and bytes alone, {fed[0]} for a bundle fed in "
+              f"one piece, {fed[1]} in pieces of 1000 bytes, {fed[2]} byte by byte")
     bench.counts["kept"], bench.counts["fed"] = (kept, None), (max(fed), None)
 
 
 PARTS = {it.__name__: it for it in (roots, chains, show, tool, pieces)}
 
 
-def told(count):
-    """How much, and how many calls for memory, where they are counted."""
-    much, asked = count
-    if asked is None:
-        return f"{much:,}"
-    return f"{much:,}, and {asked:,}" if isinstance(asked, int) else f"{much:,}, and {asked:,.2f}"
+def cells(count):
+    """Returns the cells of a count: instructions, and allocations if they are counted."""
+    return f"{count[0]:,} | " + ("" if count[1] is None else f"{count[1]:,.2f}")
 
 
 def page(bench):
@@ -313,24 +304,36 @@ def page(bench):
     kit = first_line("rt", "version").partition(" ")[0]
     mbedtls = first_line("dpkg-query", "-W", "-f", "${Version}\n", "libmbedtls-dev")
     openssl = first_line("openssl", "version").split(" ")[1]
-    yield f"""# What reading, judging and writing cost
+    kept, fed, rows, parts, missed = *(bench.counts[it][0] for it in ("kept", "fed")), [], [], []
+    for task, name, beside, other, most in ROWS:
+        one, two = bench.counts[name], bench.counts.get(other) or (other, None)
+        parts.append(one[0] / two[0])
+        met = "yes" if parts[-1] <= most else "**no**" if most else ""
+        missed += [task] if "no" in met else []
+        row = task, cells(one), beside, cells(two), f"{parts[-1]:.3f}", str(most or ""), met
+        rows.append(f"| {' | '.join(row)} |")
+    less, pair = [f"{100 - 100 * it:.0f} %" for it in parts], "Instructions | Allocations"
+    return f"""# Speed
 
-Written by `bench/speed.py`, of proved builds, in one run
-({datetime.date.today()}, crates of {commit}, {kit}, LLVM, mbedTLS {mbedtls}, OpenSSL {openssl}).
+Decoding a root certificate and the extensions that the rules use takes {less[1]} fewer instructions
+than with mbedTLS. Without the extensions, which mbedTLS always decodes, it takes {less[0]} fewer.
+Validating a chain of four certificates, without signatures and digests, takes {less[4]} fewer.
+Targets that are missed: {', '.join(missed) or 'none'}.
 
-Instructions are valgrind's: the mean of a root of `ca-certificates`, or of a chain of
-four, by differences that leave out the start of a program. Of `cert_tool` and
-`cert_desk` they are those of a run less a run that finds a wrong word. After them stand
-the calls for memory, likewise.
+A figure of a root is the mean of the roots of Debian's `ca-certificates`. A ratio below 1 means
+that Wurstdrape takes fewer instructions. "0.10.0" is version 0.10.0 of Wurstdrape.
 
-| What | Counted | Beside | Counted | Ratio | Wanted, at most |
-|---|---|---|---|---|---|
+| Task | {pair} | Compared with | {pair} | Ratio | Target | Met |
+|---|---|---|---|---|---|---|---|---|
+{chr(10).join(rows)}
+
+A bundle of 10,000 certificates used {fed:,} kB at most, {fed / kept:.3f} times the {kept:,} kB of
+the certificates and their bytes (target 1.06).
+
+`bench/speed.py` measured proved builds in one run ({datetime.date.today()}, crates of {commit},
+{kit}, LLVM, mbedTLS {mbedtls}, OpenSSL {openssl}), and [printed this](speed.txt).
+[README](README.md#method) explains how it counts.
 """
-    for what, name, beside, other, most in ROWS:
-        count, other = bench.counts[name], bench.counts.get(other) or (other, None)
-        ratio = f"{count[0] / other[0]:.3f}"
-        yield f"| {what} | {told(count)} | {beside} | {told(other)} | {ratio} | {most} |\n"
-    yield "\n".join(["", "What the script prints:", "", "```text", *bench.lines, "```", ""])
 
 
 def main():
@@ -349,7 +352,8 @@ def main():
             bench.say(name)
             PARTS[name](bench)
         if not words.parts:
-            PAGE.write_text("".join(page(bench)))
+            PAGE.write_text(page(bench))
+            PAGE.with_name("speed.txt").write_text("\n".join([*bench.lines, ""]))
 
 
 if __name__ == "__main__":

@@ -1,30 +1,31 @@
 #!/usr/bin/env bash
-# Makes what programs in C and other languages link, in a folder of their own: the header, and of
-# each crate of calls an archive, a shared library and a file for pkg-config.
+# Builds the C header, the static and shared libraries, and the files for pkg-config in FOLDER.
 #
-#     bindings/build.sh FOLDER                proves these crates, and builds them
-#     bindings/build.sh FOLDER --gate         over the libraries that `rt ci` left in crates/*/out
-#     bindings/build.sh FOLDER --from OTHER   takes the archives of the crates that stand in OTHER
+#     bindings/build.sh FOLDER                proves the crates, and builds them
+#     bindings/build.sh FOLDER --gate         uses the libraries that `rt ci` left in crates/*/out
+#     bindings/build.sh FOLDER --from OTHER   uses the archives of the crates in the folder OTHER
 #
-# Nothing but the calls of wurstdrape.h is defined for others, and nothing but the C library's is
-# left undefined; both are compared, and the status is 1 where one differs.
+# A library exports the functions of wurstdrape.h and nothing else, and imports functions of the C
+# library alone; the status is 1 if that isn't so, and 2 if an argument is wrong.
 set -euo pipefail
+case "$#${2:-}" in
+    1 | 2--gate | 3--from) [[ $1 == -* ]] || fits=yes ;;
+esac
+if [ -z "${fits-}" ]; then
+    sed -n '2,9s/^# \?//p' "$0"
+    [ "${1-}" = --help ] && exit || exit 2
+fi
 here=$(cd "$(dirname "$0")" && pwd)
 top=$(dirname "$here")
 kit=$(dirname "$(dirname "$(readlink -f "$(command -v rt)")")")
-case "$#${2:-}" in
-    1 | 2--gate | 3--from) ;;
-    *) sed -n '2,10p' "$0"; exit 2 ;;
-esac
 mkdir -p "$1"
 folder=$(cd "$1" && pwd)
 how=${2:-}
 from=${3:-}
 
-# A toolchain whose clang makes functions one that have the same code, as a generic function has it
-# for each lifetime, before it puts any into another: behind that they are told apart no more.
-# Then it prefers the smaller of two forms of code, but for what it puts into another; what reads
-# lengths of more than one octet, and what adds lines of descriptions, stays a call.
+# A toolchain for smaller code. Its clang merges functions with the same code, such as the copies of
+# a generic function for each lifetime, before it inlines any. Then it optimizes for size, but
+# inlines as usual, except the functions that decode long lengths and that add lines of text.
 toolchain=$(mktemp -d)
 trap 'rm -rf "$toolchain"' EXIT
 mkdir "$toolchain/bin"
@@ -44,7 +45,7 @@ exec "$clang" "${words[@]/#-O3/-O2}" -mllvm -force-attribute=optsize -mllvm -inl
 END
 chmod +x "$toolchain/bin/clang"
 
-# Builds the archive of a crate, over the libraries that it names.
+# Builds the archive of a crate from the libraries on its line of crates.txt.
 build() {
     local crate=$1 libraries name words
     libraries=$(sed -n "s/^$crate staticlib: *//p" "$top/crates.txt")
@@ -65,22 +66,21 @@ build() {
 
 version=$(sed -n 's/^## \([0-9][0-9.]*\).*/\1/p' "$top/CHANGELOG.md" | head -n 1)
 
-# Makes what is linked of the archive of a crate, under a name; for pkg-config with a description.
+# library NAME CRATE DESCRIPTION: builds the libraries and the file for pkg-config of a crate.
 library() {
     local name=$1 crate=$2 what=$3 archive=$from/lib$2.a object=$folder/$1.o
     if [ "$how" != --from ]; then
         build "$crate"
         archive=$top/crates/$crate/out/lib$crate.a
     fi
-    # One object, of which only the calls are seen from outside, and no group of sections, of which
-    # who links two libraries would keep that of one.
+    # One object, which exports only the calls. It has no section groups: a program that links both
+    # libraries would keep those of one only.
     ld -r --force-group-allocation -o "$object" \
         --whole-archive "$archive" --no-whole-archive "$kit/c/liblibc_c.a"
     objcopy --wildcard --keep-global-symbol='wd_*' "$object"
     rm -f "$folder/lib$name.a"
     ar rcsD "$folder/lib$name.a" "$object"
-    # The kit's linker keeps one of several functions that have the same code, and one of several
-    # constants: functions that choose by a table are the same only where their tables are.
+    # The kit's linker merges functions with the same code, and equal constants.
     "${CC:-cc}" -shared -o "$folder/lib$name.so" "$object" -fuse-ld=lld -B"$kit/toolchain/bin" \
         -Wl,--icf=all -Wl,--ignore-data-address-equality -Wl,--gc-sections -Wl,-z,defs \
         -Wl,-soname,"lib$name.so" \
@@ -100,8 +100,9 @@ Libs: -L\${libdir} -l$name
 END
 }
 library wurstdrape cert_desk_c \
-    "Certificates, revocation lists and requests, read and judged by proved code"
-library wurstdrape_issue cert_desk_issuing_c "Certificates, issued by proved code, signed elsewhere"
+    "Parses and validates X.509 certificates, CRLs and CSRs; formally verified"
+library wurstdrape_issue cert_desk_issuing_c \
+    "Issues X.509 certificates that are signed elsewhere; formally verified"
 cp "$here/wurstdrape.h" "$folder/"
 
 calls() { grep -o '\bwd_[a-z_]*(' "$here/wurstdrape.h" | tr -d '(' | sort; }
@@ -111,9 +112,10 @@ symbols() {
         grep -v ' w ' | sed 's/.* //; s/@.*//' | sort
 }
 known='^(malloc|realloc|free|memcpy|memmove|memset|memcmp|bcmp|strlen|abort)$'
-diff <(calls) <(symbols --defined-only) || { echo "calls and symbols differ"; exit 1; }
+diff <(calls) <(symbols --defined-only) ||
+    { echo "the libraries don't export the functions of wurstdrape.h"; exit 1; }
 if symbols --undefined-only | grep -Ev "$known"; then
-    echo "symbols that aren't the C library's"
+    echo "the libraries import these functions, which aren't the C library's"
     exit 1
 fi
 ls -l "$folder"

@@ -1,16 +1,19 @@
 #!/usr/bin/env bash
-# Runs the tests of the calls, in C, Rust and Python, over what bindings/build.sh made.
+# Runs the tests of the bindings for C, Rust and Python.
 #
 #     bindings/test.sh FOLDER [COUNT]
 #
-# COUNT is how many changed files are answered through C and through Rust (100,000). A suite that
-# needs what this machine lacks (a sanitizer, valgrind, cargo, a Python of 3.10) is left out, and
-# that is told. The last line is 'N passed, M failed', of suites, and the status is 1 where one
-# failed.
+# FOLDER is the result of bindings/build.sh. COUNT is the number of changed files that are decoded
+# through C and through Rust (100,000). A suite is skipped if this machine lacks what it needs (a
+# sanitizer, valgrind, cargo, Python 3.10). The last line is 'N passed, M failed' (suites). The
+# status is 1 if one failed, and 2 if an argument is wrong.
 set -uo pipefail
 here=$(cd "$(dirname "$0")" && pwd)
 top=$(dirname "$here")
-[ $# -ge 1 ] || { sed -n '2,9p' "$0"; exit 2; }
+if [ $# = 0 ] || [ $# -gt 2 ] || [[ $1 == -* ]]; then
+    sed -n '2,9s/^# \?//p' "$0"
+    [ "${1-}" = --help ] && exit || exit 2
+fi
 folder=$(cd "$1" && pwd) || exit 2
 cd "$top" || exit 2
 count=${2:-100000}
@@ -22,12 +25,12 @@ export PYTHONPATH=$work/module PYTHONDONTWRITEBYTECODE=1
 export WURSTDRAPE=$folder CARGO_TARGET_DIR=$work/target
 manifest=(--offline --manifest-path "$here/rust/Cargo.toml")
 
-# suite NAME LACK COMMAND..: runs a suite, unless this machine lacks something, and counts it.
+# suite NAME LACK COMMAND...: runs a suite and counts it, unless LACK says what this machine lacks.
 suite() {
     local began=$SECONDS
     printf '\n== %s\n' "$1"
     if [ -n "$2" ]; then
-        echo "left out: $2"
+        echo "skipped: $2"
     elif "${@:3}"; then
         passed=$((passed + 1))
         echo "passed in $((SECONDS - began)) seconds"
@@ -37,7 +40,7 @@ suite() {
     fi
 }
 
-# Prints why a program that is compiled with these flags can't run here, behind what `under` names.
+# Prints why a program that is compiled with these flags can't run here (under the command `under`).
 lack_of() {
     echo 'int main(void) { return 0; }' >"$work/tried.c"
     { "$cc" "$@" "$work/tried.c" -o "$work/tried" && ${under:-} "$work/tried"; } \
@@ -51,7 +54,7 @@ shared=(-L"$folder" -lwurstdrape -lwurstdrape_issue -Wl,-rpath,"$folder")
 wrap=(-DWRAPPED "-Wl,--wrap=malloc,--wrap=realloc,--wrap=free")
 ends=(-fsanitize=address,undefined -fno-sanitize-recover=all)
 
-# Runs c/test.c, compiled and linked with these words.
+# Compiles c/test.c with these options, and runs it.
 in_c() {
     "$cc" "${flags[@]}" "$here/c/test.c" "$@" -o "$work/test" && ${under:-} "$work/test" "$top"
 }
@@ -70,7 +73,7 @@ python_tests() {
         python3 -m zipfile -e "$wheel" "$work/module" &&
         python3 -m unittest "$here/python/test_wurstdrape.py"
 }
-# Through C, and the same through Rust where there is cargo: each prints one line.
+# Decodes changed files through C and, if there is cargo, through Rust: each prints one line.
 changed_files() {
     "$cc" "${flags[@]}" -O2 "$here/c/mutated.c" "${archives[0]}" -o "$work/mutated" &&
         "$work/mutated" "$top" "$count" | tee "$work/sum" || return 1
@@ -80,20 +83,20 @@ changed_files() {
 }
 
 no_python=$(python3 -c 'import ctypes, sys, unittest; sys.exit(sys.version_info < (3, 10))' \
-    2>/dev/null || echo "there is no python3 of 3.10 or later")
+    2>/dev/null || echo "Python 3.10 or later isn't installed")
 no_cargo=$({ cargo metadata --no-deps --format-version 1 "${manifest[@]}" && rustc --version; } \
-    >/dev/null 2>&1 || echo "there is no cargo that reads bindings/rust")
+    >/dev/null 2>&1 || echo "cargo isn't installed, or can't build bindings/rust")
 
-suite "the header beside the sources" "$no_python" "$top/tools/header.py"
+suite "the header against the sources" "$no_python" "$top/tools/header.py"
 suite "C" "" in_c "${shared[@]}"
 suite "C, examples" "" examples
-suite "C, each request for memory refused" "" in_c "${archives[@]}" "${wrap[@]}"
-suite "C, with the sanitizers for addresses and for undefined behaviour" "$(lack_of "${ends[@]}")" \
+suite "C, with each allocation failing once" "" in_c "${archives[@]}" "${wrap[@]}"
+suite "C, with the sanitizers for addresses and undefined behaviour" "$(lack_of "${ends[@]}")" \
     in_c "${archives[@]}" "${wrap[@]}" "${ends[@]}"
-suite "C, with threads watched" "$(lack_of -fsanitize=thread)" \
+suite "C, with the sanitizer for threads" "$(lack_of -fsanitize=thread)" \
     in_c "${archives[@]}" -fsanitize=thread
 under="valgrind -q --error-exitcode=1 --leak-check=full"
-suite "C, over the shared library, by valgrind" "$(lack_of -g)" in_c "${shared[@]}"
+suite "C, with the shared library, under valgrind" "$(lack_of -g)" in_c "${shared[@]}"
 under=
 suite "Python" "$no_python" python_tests
 suite "Rust" "$no_cargo" cargo test --quiet "${manifest[@]}"

@@ -1,32 +1,42 @@
-/* wurstdrape.h: certificates (RFC 5280), CRLs and CSRs, read, and certification paths judged and
-   issued.
+/* wurstdrape.h: decodes, prints and describes X.509 certificates (RFC 5280), CRLs and CSRs,
+   validates certificate chains, and issues them.
 
-   Octets in DER go in, a status and octets come out. No state is kept between calls, so threads may
-   call at once. Each call is proved to keep its contract, which stands with its source
-   (crates/cert_desk_c/src, crates/cert_desk_issuing_c/src); docs/FROM_OTHERS.md says what that
-   covers. Those that issue stand in libwurstdrape_issue, all others in libwurstdrape.
+   The functions take DER, and return a status and bytes. They keep no state, so threads may call
+   them at the same time. Each function is proved to meet its contract, which is in its source
+   (crates/cert_desk_c/src, crates/cert_desk_issuing_c/src). docs/FROM_OTHERS.md says what is
+   proved, and has complete programs.
 
-   The caller keeps these, which no proof can see:
-   - No pointer is null, also where its length is 0. It points to as many octets as its length
-     says.
-   - What a call reads stays as it is while the call runs. What it is lent to write (`out`,
-     `size`, and what a pointer to a single value lends) overlaps nothing else of that call. It
-     may hold anything before, but for a bool, which holds true or false.
-   - malloc, realloc and free of the program belong together, and align as those of the C library
-     do. A call frees all that it took before it returns.
-   - No call is made from a signal handler, nor in the child that a process with threads forked.
+   Link with libwurstdrape; wd_signed_part, wd_issue and wd_audit are in libwurstdrape_issue.
 
-   A call that writes octets writes them to the front of `out`, and their number to `*size`.
-   Where the buffer is too small it returns WD_NO_ROOM, writes nothing to `out`, and says in
-   `*size` how much it wants. With every other status `out` stays as it was, and `*size` is 0. Text
-   is in UTF-8, without a terminating 0.
+   What the caller must ensure
 
-   A call always writes `*size`. It writes `fault` or `told` only with a status for which its
-   comment says so, and all other single values only with WD_DONE.
+   - No pointer is null, not even where the length is 0. A pointer points to as many bytes as the
+     length after it says.
+   - The input doesn't change during the call.
+   - The memory that a function writes to overlaps none of its other arguments. It needn't be
+     initialized, except that a bool must be true or false.
+   - malloc, realloc and free are those of one C library, with its alignment.
+   - No function is called from a signal handler, or in the child of a process with several threads
+     after fork.
 
-   A call returns no other status than those that its comment lists, and each of them exactly where
-   its meaning holds; WD_MEMORY, in place of any other, where an allocation failed. Where the
-   arguments are faulty it returns WD_ARGUMENTS, whatever else holds. */
+   What the functions return
+
+   - Each comment below lists the statuses that the function may return. It returns no others.
+   - A status implies what its comment says. For all functions except the three that issue, the
+     converse is proved, too: if what the comment says of a status is true, the function returns
+     this status, or WD_MEMORY.
+   - A function that allocates may return WD_MEMORY in place of another status.
+   - All statuses but WD_ARGUMENTS and WD_MEMORY imply that the arguments are valid.
+
+   What the functions write
+
+   - Bytes are written to the beginning of `out`, and their number to `*size`. Text is UTF-8, and
+     isn't terminated by 0.
+   - If `out` is too small, the status is WD_NO_ROOM, and `*size` is the size that is needed. With
+     any other status but WD_DONE, `*size` is 0.
+   - With any status but WD_DONE, `out` is unchanged, and so are all other outputs. The exceptions
+     are `*size`, and `fault` and `told` as stated below.
+   - No function returns memory that you have to free. */
 #ifndef WURSTDRAPE_H
 #define WURSTDRAPE_H
 
@@ -38,19 +48,20 @@
 extern "C" {
 #endif
 
-/* What a call returns, the exit statuses of the programs. */
+/* The statuses. They have the numbers of the programs' exit statuses. */
 enum {
-    WD_DONE = 0,      /* done; of a chain: trusted */
-    WD_REFUSED = 1,   /* a certificate of the chain breaks a rule; orders are refused */
-    WD_FAULTY = 2,    /* the octets aren't what they should be */
-    WD_EMPTY = 3,     /* there is none */
-    WD_ARGUMENTS = 4, /* anchors, answers, orders, limit, algorithm or identifier are faulty */
-    WD_NO_ROOM = 5,   /* out is too small */
-    WD_MEMORY = 6     /* malloc or realloc gave none */
+    WD_DONE = 0,      /* success; of a chain: it is trusted */
+    WD_REFUSED = 1,   /* a certificate of the chain breaks a rule, or the orders are rejected */
+    WD_FAULTY = 2,    /* the input isn't the DER, or the text, of the expected type */
+    WD_EMPTY = 3,     /* the chain is empty, or there is no such extension or index */
+    WD_ARGUMENTS = 4, /* an argument other than the input is wrong */
+    WD_NO_ROOM = 5,   /* `out` is too small */
+    WD_MEMORY = 6     /* out of memory */
 };
 
-/* The rules of a chain (RFC 5280 6.1), in the order in which they are judged: `number` where
-   wd_verify returns WD_REFUSED. docs/tables/REFUSALS.md explains each. */
+/* The rules for each certificate of a chain (RFC 5280 6.1), in the order in which they are checked.
+   wd_verify stores one of them in `number` if it returns WD_REFUSED. docs/CLI.md says what each
+   requires. */
 enum {
     WD_ALGORITHMS_DIFFER = 1,
     WD_DUPLICATE_EXTENSION = 2,
@@ -65,33 +76,32 @@ enum {
     WD_WRONG_SIGNATURE = 11
 };
 
-/* Why orders are refused: `number` where wd_audit returns WD_REFUSED and no rule is broken. The name
-   isn't read; isn't a root's; isn't a subscriber's; the serial number has no octets, or more than
-   20; a date isn't one, or the last is before the first; a subscriber has no DNS name, or one that
-   isn't ASCII; a length passes 2^32 - 1. */
+/* The reasons why orders are rejected. wd_audit stores one of them in `number` if it returns
+   WD_REFUSED and no rule is broken. */
 enum {
-    WD_ORDER_NO_ORDERS = 21,
-    WD_ORDER_NAME = 22,
-    WD_ORDER_ROOT_NAME = 23,
-    WD_ORDER_SUBSCRIBER_NAME = 24,
-    WD_ORDER_SERIAL = 25,
-    WD_ORDER_DATES = 26,
-    WD_ORDER_DNS_NAME = 27,
-    WD_ORDER_TOO_LONG = 28
+    WD_ORDER_NO_ORDERS = 21,       /* the file has no orders */
+    WD_ORDER_NAME = 22,            /* the name can't be parsed */
+    WD_ORDER_ROOT_NAME = 23,       /* the name isn't allowed for a root */
+    WD_ORDER_SUBSCRIBER_NAME = 24, /* the name isn't allowed for an end entity */
+    WD_ORDER_SERIAL = 25,          /* the serial number has no bytes, or more than 20 */
+    WD_ORDER_DATES = 26,           /* a date is invalid, or notAfter is before notBefore */
+    WD_ORDER_DNS_NAME = 27,        /* an end entity has no DNS name, or one that isn't ASCII */
+    WD_ORDER_TOO_LONG = 28         /* a length exceeds 2^32 - 1 */
 };
 
-/* What can be wrong with the octets of a chain: `number` where wd_verify returns WD_FAULTY. */
+/* The errors of bytes that aren't a sequence of certificates. wd_verify stores one of them in
+   `number` if it returns WD_FAULTY. */
 enum {
-    WD_CHAIN_NO_CERTIFICATE = 1,
-    WD_CHAIN_INDEFINITE = 2,
-    WD_CHAIN_LENGTH_TOO_WIDE = 3,
-    WD_CHAIN_LENGTH_NOT_SHORTEST = 4,
-    WD_CHAIN_TOO_LARGE = 5,
-    WD_CHAIN_MALFORMED = 6,
-    WD_CHAIN_TRUNCATED = 7
+    WD_CHAIN_NO_CERTIFICATE = 1,      /* the byte where a certificate should begin isn't 0x30 */
+    WD_CHAIN_INDEFINITE = 2,          /* its length is indefinite */
+    WD_CHAIN_LENGTH_TOO_WIDE = 3,     /* its length has more than four bytes after the first */
+    WD_CHAIN_LENGTH_NOT_SHORTEST = 4, /* its length isn't in the shortest form */
+    WD_CHAIN_TOO_LARGE = 5,           /* it has more than `limit` bytes */
+    WD_CHAIN_MALFORMED = 6,           /* it isn't the DER of a certificate */
+    WD_CHAIN_TRUNCATED = 7            /* the chain ends inside a certificate */
 };
 
-/* The kinds of faults of octets in DER (docs/ENCODING.md): `kind` of a wd_fault. */
+/* The kinds of decoding errors, in `kind` of a wd_fault. docs/ENCODING.md says when each occurs. */
 enum {
     WD_FAULT_DATE_TIME = 1,
     WD_FAULT_ENCODING_RULES = 2,
@@ -118,56 +128,58 @@ enum {
     WD_FAULT_VALUE = 23
 };
 
-/* The first error that reading the octets meets. */
+/* The first error that decoding meets. */
 typedef struct {
     uint32_t kind;  /* WD_FAULT_.. */
-    uint64_t octet; /* where it was found, counted from 0, or UINT64_MAX where that isn't known */
+    uint64_t octet; /* the index of the byte at which it was found, or UINT64_MAX if unknown */
 } wd_fault;
 
-/* The dates of a validity, in seconds since 1970-01-01T00:00:00Z. */
+/* The validity period of a certificate, in seconds since 1970-01-01T00:00:00Z. */
 typedef struct {
-    uint64_t not_before; /* the first second */
-    uint64_t not_after;  /* the last second */
+    uint64_t not_before; /* the first second of the period */
+    uint64_t not_after;  /* the last second of the period */
 } wd_validity;
 
-/* Where octets stand in those of the caller. */
+/* The position of some bytes in an input. */
 typedef struct {
-    size_t start; /* how many octets are before them */
-    size_t size;  /* how many they are */
+    size_t start; /* the index of the first byte */
+    size_t size;  /* the number of bytes */
 } wd_span;
 
-/* Where parts of a certificate stand in its octets (RFC 5280 4.1). */
+/* The positions of the parts of a certificate (RFC 5280 4.1). */
 typedef struct {
-    wd_span signed_part;   /* what is signed, a TBSCertificate */
-    wd_span serial_number; /* its content octets, the highest first, in two's complement */
+    wd_span signed_part;   /* the TBSCertificate */
+    wd_span serial_number; /* the content bytes: two's complement, most significant byte first */
     wd_span issuer;        /* the name in DER */
     wd_span subject;       /* the name in DER */
-    wd_span public_key;    /* with its algorithm, a SubjectPublicKeyInfo */
+    wd_span public_key;    /* the SubjectPublicKeyInfo in DER */
 } wd_spans;
 
-/* Where a chain is refused, and by which rule; or where its octets have a fault, and of which
-   kind. */
+/* The certificate that breaks a rule, or the error of the input. */
 typedef struct {
-    uint64_t place;  /* of the certificate, counted from 0 */
-    uint64_t offset; /* of its first octet in the chain; written with WD_FAULTY alone */
-    uint64_t number; /* of the rule, or of the kind of fault */
+    uint64_t place;  /* the index of the certificate, counted from 0 */
+    uint64_t offset; /* the index of its first byte in the chain; written only with WD_FAULTY */
+    uint64_t number; /* the rule, or the error (WD_CHAIN_..) */
 } wd_place;
 
-/* Where orders are refused, and why; or where the chain that they ask for breaks a rule, and
-   which. */
+/* The order that is rejected, or whose certificate breaks a rule. */
 typedef struct {
-    uint64_t place;  /* of the order, counted from 0 */
-    uint64_t number; /* of the reason (WD_ORDER_..), or of the rule */
+    uint64_t place;  /* the index of the order, counted from 0 */
+    uint64_t number; /* the reason (WD_ORDER_..), or the rule */
 } wd_reason;
 
-/* Whether octets, all of them, are the encoding of a certificate, a CRL, a CSR: WD_DONE where they
-   are; WD_FAULTY where they aren't, and then `fault` is told; WD_MEMORY. */
+/* Returns whether all the bytes are the encoding of a certificate, a CRL, or a CSR.
+   - WD_DONE: they are.
+   - WD_FAULTY: they aren't. `fault` gets the first error; otherwise it is unchanged.
+   - WD_MEMORY. */
 uint32_t wd_is_certificate(const uint8_t *octets, size_t octets_len, wd_fault *fault);
 uint32_t wd_is_list(const uint8_t *octets, size_t octets_len, wd_fault *fault);
 uint32_t wd_is_request(const uint8_t *octets, size_t octets_len, wd_fault *fault);
 
-/* The listing, as `cert_desk show` prints it: WD_DONE, WD_FAULTY where octets encode none,
-   WD_NO_ROOM, WD_MEMORY. */
+/* Writes the listing of a certificate, a CRL, or a CSR, as `cert_desk show` prints it.
+   - WD_DONE.
+   - WD_FAULTY: the bytes aren't such an encoding.
+   - WD_NO_ROOM, WD_MEMORY. */
 uint32_t wd_show_certificate(const uint8_t *octets, size_t octets_len, uint8_t *out, size_t out_len,
                              size_t *size);
 uint32_t wd_show_list(const uint8_t *octets, size_t octets_len, uint8_t *out, size_t out_len,
@@ -175,8 +187,9 @@ uint32_t wd_show_list(const uint8_t *octets, size_t octets_len, uint8_t *out, si
 uint32_t wd_show_request(const uint8_t *octets, size_t octets_len, uint8_t *out, size_t out_len,
                          size_t *size);
 
-/* The description, as `cert_tool describe` prints it, as lines or as JSON, with the same statuses.
-   What the text says isn't proved. */
+/* Writes the description of a certificate, a CRL, or a CSR, as `cert_tool describe` prints it, as
+   lines or as JSON. The text is tested, but not proved. The statuses are those of
+   wd_show_certificate. */
 uint32_t wd_describe_certificate(const uint8_t *octets, size_t octets_len, bool json, uint8_t *out,
                                  size_t out_len, size_t *size);
 uint32_t wd_describe_list(const uint8_t *octets, size_t octets_len, bool json, uint8_t *out,
@@ -184,83 +197,116 @@ uint32_t wd_describe_list(const uint8_t *octets, size_t octets_len, bool json, u
 uint32_t wd_describe_request(const uint8_t *octets, size_t octets_len, bool json, uint8_t *out,
                              size_t out_len, size_t *size);
 
-/* The subject's and the issuer's name of a certificate as text (RFC 4514), with the same
-   statuses. */
+/* Writes the subject, or the issuer, of a certificate as text (RFC 4514). The statuses are those of
+   wd_show_certificate. */
 uint32_t wd_subject(const uint8_t *octets, size_t octets_len, uint8_t *out, size_t out_len,
                     size_t *size);
 uint32_t wd_issuer(const uint8_t *octets, size_t octets_len, uint8_t *out, size_t out_len,
                    size_t *size);
 
-/* Where parts of a certificate stand in `octets`; nothing is copied: WD_DONE, WD_FAULTY,
-   WD_MEMORY. */
+/* Stores the positions of the parts of a certificate in `octets`. Nothing is copied.
+   - WD_DONE.
+   - WD_FAULTY: the bytes aren't the encoding of a certificate.
+   - WD_MEMORY. */
 uint32_t wd_parts(const uint8_t *octets, size_t octets_len, wd_spans *spans);
 
-/* The dates of a certificate: WD_DONE, WD_FAULTY, WD_MEMORY. */
+/* Stores the validity period of a certificate. The statuses are those of wd_parts. */
 uint32_t wd_dates(const uint8_t *octets, size_t octets_len, wd_validity *dates);
 
-/* Where the content of a certificate's first extension of an identifier stands in `octets`, and
-   whether it is critical. The identifier is given by its content octets, which
-   wd_identifier_of_text makes. WD_DONE, WD_FAULTY where octets encode no certificate, WD_EMPTY
-   where it has no such extension, WD_ARGUMENTS where the identifier is none of up to 39 octets,
-   WD_MEMORY. */
+/* Finds the first extension of a certificate with an OID. Stores the position of its content in
+   `octets`, and whether it is critical. `identifier` is the content bytes of the OID, which
+   wd_identifier_of_text returns. A certificate may have two extensions with the same OID, which
+   RFC 5280 4.2 forbids and wd_verify rejects; this function doesn't report the second one.
+   - WD_DONE.
+   - WD_FAULTY: the bytes aren't the encoding of a certificate.
+   - WD_EMPTY: the certificate has no such extension.
+   - WD_ARGUMENTS: `identifier` isn't an OID of at most 39 bytes.
+   - WD_MEMORY. */
 uint32_t wd_extension(const uint8_t *octets, size_t octets_len, const uint8_t *identifier,
                       size_t identifier_len, wd_span *span, bool *critical);
 
-/* The text of a name in DER (RFC 4514), and the DER of the name that a text says: WD_DONE,
-   WD_FAULTY where there is none, WD_NO_ROOM, WD_MEMORY. */
+/* Writes the text (RFC 4514) of a name in DER, or the DER of a name that is given as text.
+   - WD_DONE.
+   - WD_FAULTY: the bytes aren't a name in DER, or the text isn't UTF-8 or isn't the text of a name
+     that has an encoding.
+   - WD_NO_ROOM, WD_MEMORY. */
 uint32_t wd_name_text(const uint8_t *octets, size_t octets_len, uint8_t *out, size_t out_len,
                       size_t *size);
 uint32_t wd_name_of_text(const uint8_t *text, size_t text_len, uint8_t *out, size_t out_len,
                          size_t *size);
 
-/* The dotted text of an identifier's content octets, and the octets of a dotted text: WD_DONE,
-   WD_FAULTY where there is none of up to 39 octets, WD_NO_ROOM; WD_MEMORY, which the second never
-   returns. */
+/* Writes the dotted text of an OID that is given by its content bytes, or the content bytes of an
+   OID that is given as text.
+   - WD_DONE.
+   - WD_FAULTY: the input isn't an OID of at most 39 content bytes.
+   - WD_NO_ROOM.
+   - WD_MEMORY: only from wd_identifier_text. */
 uint32_t wd_identifier_text(const uint8_t *octets, size_t octets_len, uint8_t *out, size_t out_len,
                             size_t *size);
 uint32_t wd_identifier_of_text(const uint8_t *text, size_t text_len, uint8_t *out, size_t out_len,
                                size_t *size);
 
-/* What the signatures of a chain may ask, a line each: `PLACE ANCHOR KEY ALGORITHM SIGNED BITS`
-   (docs/CLI.md). The chain is certificates of at most `limit` octets, the one below an anchor
-   first, with nothing between them; the anchors are trust anchors (RFC 5914), as certificates are.
-   WD_DONE; WD_FAULTY where the chain isn't one; WD_EMPTY; WD_ARGUMENTS where the anchors are
-   faulty, or 2^32 octets or more, or the limit is below 6; WD_NO_ROOM; WD_MEMORY. */
+/* Writes one line for each signature that has to be verified to validate a chain under trust
+   anchors: `PLACE ANCHOR KEY ALGORITHM SIGNED BITS` (docs/CLI.md). `chain` is a sequence of
+   certificates of at most `limit` bytes each, with nothing between them; the first one is issued
+   by a trust anchor. `anchors` is a sequence of trust anchors (RFC 5914); certificates are trust
+   anchors, too.
+   - WD_DONE.
+   - WD_FAULTY: `chain` isn't a sequence of such certificates.
+   - WD_EMPTY: `chain` is empty.
+   - WD_ARGUMENTS: `anchors` is wrong, or has 2^32 bytes or more, or `limit` is below 6.
+   - WD_NO_ROOM, WD_MEMORY. */
 uint32_t wd_questions(const uint8_t *anchors, size_t anchors_len, const uint8_t *chain,
                       size_t chain_len, uint32_t limit, uint8_t *out, size_t out_len,
                       size_t *size);
 
-/* The verdict on a chain at a validation time (`moment`, seconds since 1970-01-01T00:00:00Z), for a
-   key purpose (the content octets of its identifier), where a signature is right exactly where
-   `answers` list it: lines of wd_questions, those whose signature a verifier of yours has
-   verified. WD_DONE says that the chain is trusted, WD_REFUSED that it breaks a rule, WD_FAULTY
-   that its octets have a fault, and with both `told` says where and which; WD_EMPTY; WD_ARGUMENTS
-   where anchors, answers, purpose or limit are faulty; WD_MEMORY. */
+/* Validates a chain under trust anchors at the validation time `moment` (seconds since
+   1970-01-01T00:00:00Z), for a key purpose (the content bytes of its OID). `answers` are the lines
+   of wd_questions whose signatures your verifier has accepted; all other signatures count as
+   invalid. The other arguments are those of wd_questions.
+   - WD_DONE: the chain is trusted.
+   - WD_REFUSED: the chain breaks a rule. `told` gets the index of the first certificate that breaks
+     one, and the first rule that it breaks.
+   - WD_FAULTY: `chain` isn't a sequence of such certificates. `told` gets the index and the offset
+     of the first bytes that aren't a certificate, and the error.
+   - WD_EMPTY: `chain` is empty.
+   - WD_ARGUMENTS: the trust anchors, the answers, the purpose or the limit are wrong.
+   - WD_MEMORY.
+   With any status but WD_REFUSED and WD_FAULTY, `told` is unchanged. */
 uint32_t wd_verify(const uint8_t *answers, size_t answers_len, const uint8_t *anchors,
                    size_t anchors_len, const uint8_t *chain, size_t chain_len, uint64_t moment,
                    const uint8_t *purpose, size_t purpose_len, uint32_t limit, wd_place *told);
 
-/* Those that issue, in libwurstdrape_issue. */
+/* The functions that issue, in libwurstdrape_issue. */
 
-/* What is signed of the certificate at a place of the chain that an orders file asks for
-   (docs/CLI.md), 0 for its root: the octets that the key of the certificate above signs, the root's
-   own key those of the root, by this algorithm (an AlgorithmIdentifier in DER). WD_DONE; WD_REFUSED
-   where the orders are refused; WD_EMPTY where the chain has no such place; WD_ARGUMENTS where the
-   orders file or the algorithm is faulty; WD_NO_ROOM; WD_MEMORY. */
+/* Writes the TBSCertificate at an index of the chain that an orders file describes (docs/CLI.md).
+   The root has index 0. It has to be signed by `algorithm` (an AlgorithmIdentifier in DER), with
+   the key of the certificate before it; the root is signed with its own key.
+   - WD_DONE.
+   - WD_REFUSED: the orders are rejected.
+   - WD_EMPTY: the chain has no such index.
+   - WD_ARGUMENTS: the orders file or the algorithm is malformed.
+   - WD_NO_ROOM, WD_MEMORY. */
 uint32_t wd_signed_part(const uint8_t *orders, size_t orders_len, uint32_t place,
                         const uint8_t *algorithm, size_t algorithm_len, uint8_t *out,
                         size_t out_len, size_t *size);
 
-/* That certificate, with these octets as the signature of its signed part, with the same statuses.
-   Whether the signature is right isn't looked at: wd_verify judges the chain under its root. */
+/* Writes the certificate at that index, with `signature` as the signature of its TBSCertificate.
+   The signature isn't verified: use wd_verify on the whole chain, with its root as trust anchor.
+   The statuses are those of wd_signed_part; WD_ARGUMENTS also means that the signature is too
+   long. */
 uint32_t wd_issue(const uint8_t *orders, size_t orders_len, uint32_t place,
                   const uint8_t *algorithm, size_t algorithm_len, const uint8_t *signature,
                   size_t signature_len, uint8_t *out, size_t out_len, size_t *size);
 
-/* Whether the chain that an orders file asks for, signed by this algorithm, is trusted under its own
-   root at a validation time for a key purpose, where its signatures are right: WD_DONE;
-   WD_REFUSED where the orders are refused or a rule is broken, and then `told` says why;
-   WD_ARGUMENTS where the orders file, the algorithm or the purpose is faulty; WD_MEMORY. */
+/* Returns whether the chain that an orders file describes, signed by `algorithm`, will be trusted
+   under its own root at the validation time `moment`, for a key purpose, if all its signatures are
+   valid and each certificate is within the size limit of the validation.
+   - WD_DONE: it will be trusted.
+   - WD_REFUSED: the orders are rejected, or the chain breaks a rule. `told` gets the index, and the
+     reason or the rule; otherwise it is unchanged.
+   - WD_ARGUMENTS: the orders file, the algorithm or the purpose is malformed.
+   - WD_MEMORY. */
 uint32_t wd_audit(const uint8_t *orders, size_t orders_len, const uint8_t *algorithm,
                   size_t algorithm_len, uint64_t moment, const uint8_t *purpose,
                   size_t purpose_len, wd_reason *told);

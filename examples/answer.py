@@ -1,15 +1,22 @@
 #!/usr/bin/env python3
-"""Reads the lines of `cert_tool questions` from standard input, has Python's `cryptography` verify
-each signature, and writes the lines whose signature is right: the answers of `cert_tool verify`.
+"""Verifies the signatures of a chain, with Python's `cryptography`.
+
+    cert_tool questions ... | answer.py > ANSWERS
+
+Reads the lines of `cert_tool questions` from standard input, and copies each line whose signature
+is valid to standard output: the file of `cert_tool verify --answers`. It is installed as
+cert_tool_answer.
 
 Signatures: RSASSA-PKCS1-v1_5 and RSASSA-PSS (RFC 8017, RFC 4055), ECDSA over named curves
-(RFC 5480, RFC 5758), Ed25519 and Ed448 (RFC 8410). Algorithm, parameters and key are read whole,
-in DER, before anything is verified: what is unknown, left over or contradicts itself is no answer,
-and the error output says why, with the number of the line. So is a signature that is wrong.
+(RFC 5480, RFC 5758), Ed25519 and Ed448 (RFC 8410). A line isn't copied if its signature is invalid,
+or if its algorithm, parameters or key are unknown, malformed or contradictory. The error output
+gives the number of the line and the reason.
 
-The status is 0 where all lines were looked at, 2 where `cryptography` is missing.
+The status is 0 if all lines were read, even if no signature is valid, and 2 if `cryptography` isn't
+installed or there is an argument.
 """
 
+import argparse
 import dataclasses
 import sys
 
@@ -19,12 +26,14 @@ try:
     from cryptography.hazmat.primitives.asymmetric import ec, padding
     from cryptography.hazmat.primitives.serialization import load_der_public_key
 except ImportError:
-    print("answer.py: wants Python's cryptography (Debian: python3-cryptography)", file=sys.stderr)
+    print(f"{sys.argv[0]} needs cryptography: apt install python3-cryptography", file=sys.stderr)
     sys.exit(2)
+
+NAME = sys.argv[0].rpartition("/")[2]
 
 
 class NoAnswer(Exception):
-    """Why there is no answer."""
+    """The reason why a line has no answer."""
 
 
 # Tags (X.690 8.1.2).
@@ -37,8 +46,8 @@ EC_PUBLIC_KEY = "1.2.840.10045.2.1"
 # Ed25519, Ed448 (RFC 8410 3)
 ED = ("1.3.101.112", "1.3.101.113")
 
-# Each digest, its identifier (RFC 4055 2.1), that of RSASSA-PKCS1-v1_5 with it (RFC 8017 A.2.4,
-# RFC 5758 2, RFC 3279 2.2.1), and that of ECDSA with it (RFC 5758 3.2, RFC 3279 2.2.3).
+# Each digest, its OID (RFC 4055 2.1), and the OIDs of RSASSA-PKCS1-v1_5 (RFC 8017 A.2.4, RFC 5758
+# 2, RFC 3279 2.2.1) and of ECDSA (RFC 5758 3.2, RFC 3279 2.2.3) with it.
 ALGORITHMS = (
     (hashes.SHA1, "1.3.14.3.2.26", "1.2.840.113549.1.1.5", "1.2.840.10045.4.1"),
     (hashes.SHA224, "2.16.840.1.101.3.4.2.4", "1.2.840.113549.1.1.14", "1.2.840.10045.4.3.1"),
@@ -50,39 +59,39 @@ DIGESTS, PKCS1, ECDSA = ({row[at]: row[0] for row in ALGORITHMS} for at in (1, 2
 
 
 class Octets:
-    """Octets that are read from the left, value by value."""
+    """Bytes that are decoded from the left, value by value."""
 
     def __init__(self, octets):
         self.left = octets
 
     def next(self, tag):
-        """The contents octets of the next value, which has this tag (X.690 8.1, 10.1)."""
+        """Returns the content of the next value, which must have this tag (X.690 8.1, 10.1)."""
         octets = self.left
         if octets[:1] != bytes([tag]) or len(octets) < 2:
-            raise NoAnswer(f"tag {tag:02X} is wanted, not {octets[:1].hex().upper() or 'the end'}")
+            raise NoAnswer(f"expected tag {tag:02X}, found {octets[:1].hex().upper() or 'the end'}")
         length, start = octets[1], 2
         if length >= 0x80:
             start += length & 0x7F
             digits = octets[2:start]
             length = int.from_bytes(digits, "big")
             if len(digits) != start - 2 or length < 0x80 or digits[0] == 0:
-                raise NoAnswer("a length isn't as DER has it")
+                raise NoAnswer("a length isn't in DER")
         if len(octets) < start + length:
-            raise NoAnswer("octets are wanting")
+            raise NoAnswer("a value is truncated")
         self.left = octets[start + length :]
         return octets[start : start + length]
 
     def optional(self, tag):
-        """The contents octets of the next value if it has this tag."""
+        """Returns the content of the next value if it has this tag."""
         return self.next(tag) if self.left[:1] == bytes([tag]) else None
 
     def end(self):
         if self.left:
-            raise NoAnswer("octets are left over")
+            raise NoAnswer("bytes are left after a value")
 
 
 def whole(octets, tag):
-    """The contents octets of the one value that is there."""
+    """Returns the content of the value that is all of the bytes."""
     reader = Octets(octets)
     contents = reader.next(tag)
     reader.end()
@@ -90,9 +99,9 @@ def whole(octets, tag):
 
 
 def identifier(contents):
-    """An object identifier in dotted decimal (X.690 8.19)."""
+    """Returns an object identifier as dotted text (X.690 8.19)."""
     if not contents or contents[-1] >= 0x80:
-        raise NoAnswer("an object identifier is cut")
+        raise NoAnswer("an object identifier is truncated")
     numbers, number = [], 0
     for octet in contents:
         if number == 0 and octet == 0x80:
@@ -106,7 +115,7 @@ def identifier(contents):
 
 
 def whole_number(contents):
-    """A number that isn't negative (X.690 8.3)."""
+    """Returns a number that isn't negative (X.690 8.3)."""
     if not contents or contents[0] >= 0x80:
         raise NoAnswer("a number is negative or empty")
     if len(contents) > 1 and contents[0] == 0 and contents[1] < 0x80:
@@ -115,8 +124,7 @@ def whole_number(contents):
 
 
 def algorithm_of(contents):
-    """The identifier of an AlgorithmIdentifier, and the octets of its parameters (RFC 5280
-    4.1.1.2)."""
+    """Returns the OID and the undecoded parameters of an algorithm (RFC 5280 4.1.1.2)."""
     reader = Octets(contents)
     name = identifier(reader.next(OBJECT_IDENTIFIER))
     return name, reader.left
@@ -124,18 +132,18 @@ def algorithm_of(contents):
 
 def without_parameters(name, parameters):
     if parameters:
-        raise NoAnswer(f"parameters of {name}")
+        raise NoAnswer(f"{name} must not have parameters")
 
 
 def null_or_absent(name, parameters):
     if parameters not in (b"", bytes([NULL, 0])):
-        raise NoAnswer(f"parameters of {name} that aren't NULL")
+        raise NoAnswer(f"the parameters of {name} must be NULL or absent")
 
 
 def digest_of(contents):
     name, parameters = algorithm_of(contents)
     if name not in DIGESTS:
-        raise NoAnswer(f"unknown digest {name}")
+        raise NoAnswer(f"the digest {name} isn't supported")
     null_or_absent(name, parameters)
     return DIGESTS[name]
 
@@ -150,7 +158,7 @@ class PssParameters:
 
 
 def pss_parameters(octets):
-    """The parameters, read whole. A default that stands is taken for what it is."""
+    """Returns the parameters. An encoded default is accepted."""
     reader = Octets(whole(octets, SEQUENCE))
     read = {}
     if (field := reader.optional(0xA0)) is not None:
@@ -158,19 +166,19 @@ def pss_parameters(octets):
     if (field := reader.optional(0xA1)) is not None:
         name, parameters = algorithm_of(whole(field, SEQUENCE))
         if name != MGF1:
-            raise NoAnswer(f"unknown mask generation {name}")
+            raise NoAnswer(f"the mask generation function {name} isn't supported")
         read["mask_digest"] = digest_of(whole(parameters, SEQUENCE))
     if (field := reader.optional(0xA2)) is not None:
         read["salt"] = whole_number(whole(field, INTEGER))
     if (field := reader.optional(0xA3)) is not None:
         if whole_number(whole(field, INTEGER)) != 1:
-            raise NoAnswer("a trailer field other than 1")
+            raise NoAnswer("the trailer field isn't 1")
     reader.end()
     return PssParameters(**read)
 
 
 def signature_octets(contents):
-    """The octets of a BIT STRING without unused bits (X.690 8.6)."""
+    """Returns the bytes of a BIT STRING without unused bits (X.690 8.6)."""
     if contents[:1] != b"\0":
         raise NoAnswer("a bit string has unused bits, or is empty")
     return contents[1:]
@@ -179,7 +187,7 @@ def signature_octets(contents):
 @dataclasses.dataclass(frozen=True)
 class Key:
     """A SubjectPublicKeyInfo (RFC 5280 4.1.2.7): its algorithm, the RSASSA-PSS parameters that it
-    permits alone, and the key."""
+    is restricted to, if any, and the key."""
 
     algorithm: str
     permitted: PssParameters | None
@@ -187,7 +195,7 @@ class Key:
 
 
 def key_of(octets):
-    """The key, read whole."""
+    """Decodes a SubjectPublicKeyInfo."""
     reader = Octets(whole(octets, SEQUENCE))
     name, parameters = algorithm_of(reader.next(SEQUENCE))
     bits = signature_octets(reader.next(BIT_STRING))
@@ -198,33 +206,33 @@ def key_of(octets):
     elif name == RSASSA_PSS:
         permitted = pss_parameters(parameters) if parameters else None
     elif name == EC_PUBLIC_KEY:
-        # a named curve, and a point that isn't hybrid (RFC 5480 2.1.1, 2.2)
+        # The curve is named, and the point isn't hybrid (RFC 5480 2.1.1, 2.2).
         identifier(whole(parameters, OBJECT_IDENTIFIER))
         if bits[:1] not in (b"\2", b"\3", b"\4"):
-            raise NoAnswer("a point that is neither compressed nor uncompressed")
+            raise NoAnswer("the point is neither compressed nor uncompressed")
     elif name in ED:
         without_parameters(name, parameters)
     else:
-        raise NoAnswer(f"a key of unknown algorithm {name}")
+        raise NoAnswer(f"the key's algorithm {name} isn't supported")
     of_rsa = name in (RSA_ENCRYPTION, RSASSA_PSS)
     return Key(name, permitted, load_der_public_key(bits if of_rsa else octets))
 
 
 def pss_padding(permitted, parameters, longest):
-    """The padding and the digest, where the key permits them (RFC 4055 3.3)."""
+    """Returns the padding and the digest, if the key permits them (RFC 4055 3.3)."""
     wanted = pss_parameters(parameters)
     if wanted.salt > longest:
         raise NoAnswer("the salt is longer than the signature")
     if permitted is not None:
         if dataclasses.replace(wanted, salt=permitted.salt) != permitted:
-            raise NoAnswer("the key permits another digest or mask")
+            raise NoAnswer("the key doesn't permit this digest or mask")
         if wanted.salt < permitted.salt:
-            raise NoAnswer("the key permits no salt so short")
+            raise NoAnswer("the key doesn't permit a salt that is so short")
     return padding.PSS(padding.MGF1(wanted.mask_digest()), wanted.salt), wanted.digest()
 
 
 def verify(key, algorithm, signed, bits):
-    """Raises unless the signature is right."""
+    """Raises an exception unless the signature is valid."""
     name, parameters = algorithm_of(whole(algorithm, SEQUENCE))
     signature = signature_octets(whole(bits, BIT_STRING))
     key = key_of(key)
@@ -241,30 +249,32 @@ def verify(key, algorithm, signed, bits):
         without_parameters(name, parameters)
         key.public.verify(signature, signed)
     else:
-        raise NoAnswer(f"signature algorithm {name} under a key of {key.algorithm}")
+        raise NoAnswer(f"a key of {key.algorithm} doesn't fit the signature algorithm {name}")
 
 
 def refusal(line):
-    """Why a line has no answer, or nothing where its signature is right."""
+    """Returns why a line has no answer, or None if its signature is valid."""
     words = line.decode("ascii", "replace").split()
     if len(words) != 6:
-        return "no question, which has six words"
+        return "not a question: it must have six words"
     try:
         verify(*map(bytes.fromhex, words[2:]))
     except InvalidSignature:
-        return "the signature is wrong"
+        return "the signature is invalid"
     except (NoAnswer, UnsupportedAlgorithm, ValueError, TypeError, OverflowError) as why:
         return "no answer: " + " ".join(str(why).split())
     return None
 
 
 def main():
+    form = argparse.RawDescriptionHelpFormatter
+    argparse.ArgumentParser(description=__doc__, formatter_class=form).parse_args()
     for number, line in enumerate(sys.stdin.buffer, 1):
         why = refusal(line)
         if why is None:
             sys.stdout.buffer.write(line)
         else:
-            print(f"answer.py: line {number}: {why}", file=sys.stderr)
+            print(f"{NAME}: line {number}: {why}", file=sys.stderr)
 
 
 if __name__ == "__main__":

@@ -1,14 +1,20 @@
 #!/usr/bin/env bash
-# Makes a chain of three certificates in the folder FOLDER with OpenSSL 3: an RSA root, an
-# intermediate with a key on P-256, and a server's certificate with two DNS names. Each run makes
-# other keys; the files beside this script were made so once, with dates from 2026 until 2036.
+# usage: make_chain.sh FOLDER
+#
+# Makes a chain of three certificates in FOLDER with OpenSSL 3: an RSA root, an intermediate with a
+# key on P-256, and a server's certificate with two DNS names. Each run makes new keys. The .der
+# files beside this script come from one such run; they are valid from 2026 to 2036.
 set -euo pipefail
-mkdir -p "${1:?usage: make_chain.sh FOLDER}"
+if [ $# != 1 ] || [[ $1 == -* ]]; then
+    sed -n '2,6s/^# \?//p' "$0"
+    [ "${1-}" = --help ] && exit || exit 2
+fi
+mkdir -p "$1"
 cd "$1"
 work=$(mktemp -d)
 trap 'rm -rf "$work"' EXIT
 
-# certify NAME SUBJECT ISSUER ALGORITHM EXTENSION..: the certificate of a new key, for ten years
+# certify NAME SUBJECT ISSUER ALGORITHM EXTENSION...: makes a key and its certificate, for ten years
 certify() {
     local key=(-newkey "$4") by=() extension
     [ "$4" != ec ] || key+=(-pkeyopt ec_paramgen_curve:P-256)
@@ -27,5 +33,5 @@ certify intermediate "/C=US/O=Desk Example/CN=Desk Intermediate" root ec \
 certify server "/CN=desk.example" intermediate ec \
     "basicConstraints=critical,CA:false" "keyUsage=critical,digitalSignature" \
     "extendedKeyUsage=serverAuth" "subjectAltName=DNS:desk.example,DNS:www.desk.example"
-# what a server sends: the certificates below the root, the one that the root signed first
+# The chain without the root, in the order of `cert_tool verify`.
 cat intermediate.der server.der > chain.der

@@ -1,14 +1,20 @@
 #!/usr/bin/env bash
-# Has OpenSSL 3 sign what crates/example_build_certificates finalizes, with keys of RSA, ECDSA on
-# P-256 and Ed25519, and verify the chains that are assembled of it. CI doesn't run it.
-# usage: sign_outside.sh PROGRAM, where PROGRAM is example_build_certificates, built.
+# usage: sign_outside.sh PROGRAM
+#
+# Signs the certificates of crates/example_build_certificates with OpenSSL 3, with keys of RSA,
+# ECDSA on P-256 and Ed25519, and verifies the resulting chains. PROGRAM is that example, built with
+# `rt run`. CI doesn't run this script.
 set -euo pipefail
-program=$(realpath "${1:?usage: sign_outside.sh PROGRAM}")
+if [ $# != 1 ] || [[ $1 == -* ]]; then
+    sed -n '2,6s/^# \?//p' "$0"
+    [ "${1-}" = --help ] && exit || exit 2
+fi
+program=$(realpath "$1")
 work=$(mktemp -d)
 trap 'rm -rf "$work"' EXIT
 cd "$work"
 
-# key NAME WORD..: a private key, and the encoding of its public key
+# key NAME OPTION...: makes a private key, and the encoding of its public key
 key() {
     openssl genpkey -quiet "${@:2}" -out "$1.pem"
     openssl pkey -in "$1.pem" -pubout -outform DER -out "$1.der"
@@ -21,7 +27,7 @@ for kind in rsa p256 ed25519; do
     printf '%s\n' "root $kind $kind.der server.der" "server $kind $kind.der server.der"
 done > questions
 
-# what is to be signed, and its signature by the root's key
+# The part of each certificate to be signed, and its signature by the root's key.
 "$program" < questions | paste -d ' ' questions - > parts
 while read -r what kind keys; do
     xxd -r -p <<< "${keys##* }" > part
@@ -31,7 +37,7 @@ while read -r what kind keys; do
     echo "$what $kind ${keys% *} $kind.$what"
 done < parts > signed
 
-# the certificates
+# The certificates.
 "$program" < signed | paste -d ' ' signed - > certificates
 while read -r what kind words; do
     xxd -r -p <<< "${words##* }" | openssl x509 -inform DER -out "$kind.$what.crt"

@@ -1,24 +1,26 @@
 #!/usr/bin/env python3
-"""Verifies a chain in PEM, as a server sends it, under roots in PEM: one command to a verdict.
+"""Validates a certificate chain in PEM, as a server sends it, under root certificates in PEM.
 
-    examples/verify_pem.py ROOTS CHAIN [--at TIME] [--purpose PURPOSE] [--tool CERT_TOOL]
+    verify_pem.py ROOTS CHAIN [--at TIME] [--purpose PURPOSE] [--tool CERT_TOOL]
 
-ROOTS holds the certificates that are trusted (/etc/ssl/certs/ca-certificates.crt, say). CHAIN holds
-the server's certificate first, then its issuer, then that one's issuer, and so on. Text around the
-certificates is ignored. TIME and PURPOSE are those of `cert_tool verify`; the defaults are now and
-serverAuth.
+ROOTS       trusted root certificates, such as /etc/ssl/certs/ca-certificates.crt
+CHAIN       the server's certificate first, followed by each issuer in turn; other text is ignored
+--at        the validation time: `now` (default), a date, or seconds since 1970
+--purpose   the key purpose (default: serverAuth)
+--tool      the program `cert_tool` (default: beside this script, or built in this repository)
 
-The first certificate of CHAIN is always the one that is judged. What stands after the first
-certificate that a name of ROOTS issued isn't needed: the root itself, or a certificate for the same
-name by another root. Each certificate that is left out is named on the error output. A file in
-another order is refused: every certificate after the first has to be the issuer of one before it.
-Names are compared byte for byte.
+It doesn't check the host name or revocation. It is installed as cert_tool_verify_pem.
 
-The script reverses the chain, runs `cert_tool questions`, has `answer.py` answer, and runs
-`cert_tool verify`. If the chain isn't trusted, or can't be read, it prints what `cert_tool explain`
-says. The status is that of `cert_tool verify`: 0 if the chain is trusted, 1 if it breaks a rule,
-others as docs/CLI.md says. It is 4 also if a file holds no certificate in PEM, or if CHAIN stands
-in another order, and 5 if a file or a program is missing.
+The first certificate of CHAIN is always the one that is validated. Certificates after the first one
+that a root of ROOTS issued are ignored, such as the root itself; the error output names them. Each
+certificate must be the issuer of the one before it, and an ignored one of any before it. Names are
+compared byte for byte.
+
+The script reverses the chain, runs `cert_tool questions`, verifies the signatures with answer.py,
+and runs `cert_tool verify`. If the chain isn't trusted, it also prints what `cert_tool explain`
+says. The status is that of `cert_tool verify`: 0 if the chain is trusted, 1 if it breaks a rule. It
+is 2 if a certificate can't be decoded, 4 if an argument is wrong, ROOTS or CHAIN has no certificate
+or CHAIN is in another order, and 5 if a file or a program can't be read.
 """
 
 import argparse
@@ -30,18 +32,26 @@ import sys
 import tempfile
 
 HERE = pathlib.Path(__file__).resolve().parent
-TOOL = HERE.parent / "crates" / "cert_tool" / "out" / "cert_tool"
+# If this script is installed, the program and the verifier are in its folder.
+TOOLS = HERE / "cert_tool", HERE.parent / "crates/cert_tool/out/cert_tool"
+VERIFIERS = HERE / "cert_tool_answer", HERE / "answer.py"
 REFUSED, FAULTY, ARGUMENTS, DEVICE = 1, 2, 4, 5
+NAME = pathlib.Path(sys.argv[0]).name
 HEADER, FOOTER = "-----BEGIN CERTIFICATE-----", "-----END CERTIFICATE-----"
 
 
 def stop(status, why):
-    print(f"verify_pem.py: {why}", file=sys.stderr)
+    print(f"{NAME}: {why}", file=sys.stderr)
     sys.exit(status)
 
 
+def there(paths):
+    """Returns the first of these paths that is a file, or the last one."""
+    return next(filter(pathlib.Path.is_file, paths), paths[-1])
+
+
 def certificates(file):
-    """The encodings of the certificates of a file in PEM (RFC 7468 5), in their order."""
+    """Returns the encodings of the certificates of a PEM file (RFC 7468 5), in their order."""
     try:
         text = pathlib.Path(file).read_text("latin-1")
     except OSError as why:
@@ -57,12 +67,12 @@ def certificates(file):
         except ValueError as why:
             stop(ARGUMENTS, f"{file}: certificate {number} isn't PEM: {why}")
     if not found:
-        stop(ARGUMENTS, f"{file} holds no certificate in PEM")
+        stop(ARGUMENTS, f"{file}: there is no certificate in PEM")
     return found
 
 
 def parts(octets):
-    """The encodings that follow each other in these octets, each with its content."""
+    """Returns each of these consecutive encodings, with its content."""
     while octets:
         start, length = 2, octets[1]
         if length & 0x80:
@@ -73,7 +83,7 @@ def parts(octets):
 
 
 class Certificate:
-    """A certificate that `cert_tool` can read: its number in the file, its bytes and its names."""
+    """A certificate that was decoded: its number in the file, its bytes and its names."""
 
     def __init__(self, number, octets, described):
         self.number = number
@@ -82,7 +92,7 @@ class Certificate:
         self.issuer_text, self.subject_text = (
             json.dumps(described[name]["text"])[1:-1] for name in ("issuer", "subject")
         )
-        # The names as bytes (RFC 5280 4.1): version if any, serialNumber, signature, issuer, ..
+        # The names as bytes (RFC 5280 4.1), after the version, serialNumber and signature.
         signed = next(parts(next(parts(octets))[1]))[1]
         fields = [whole for whole, _ in parts(signed) if whole[0] != 0xA0]
         self.issuer, self.subject = fields[2], fields[4]
@@ -105,20 +115,20 @@ class Run:
         return subprocess.run([self.tool, *words], cwd=self.folder, capture_output=True)
 
     def read(self, file, encodings):
-        """The certificates of a file; stops at the first that isn't one."""
+        """Returns the certificates of a file. Stops at the first that can't be decoded."""
         chain = []
         for number, octets in enumerate(encodings, 1):
             self.write("certificate.der", octets)
             described = self.tool_says("describe", "certificate", "--json", "certificate.der")
             if described.returncode:
-                print(f"verify_pem.py: {file}: certificate {number} can't be read", file=sys.stderr)
+                print(f"{NAME}: {file}: certificate {number} can't be decoded", file=sys.stderr)
                 self.end_as(described, {FAULTY: ("certificate", "certificate.der")})
             chain.append(Certificate(number, octets, json.loads(described.stdout)))
         return chain
 
     def asked(self, chain):
-        """Writes the chain up to the first certificate that a name of an anchor issued, or whole.
-        Returns the questions of that chain, and how many certificates it has."""
+        """Writes the chain up to the first certificate that a root issued, or all of it. Returns
+        the questions of that chain, and its number of certificates."""
         for count in range(1, len(chain) + 1):
             stream = b"".join(certificate.octets for certificate in reversed(chain[:count]))
             self.write("chain.der", stream)
@@ -126,21 +136,21 @@ class Run:
             if asked.returncode:
                 faulty = {FAULTY: ("stream", "chain.der"), ARGUMENTS: ("anchors", "anchors.der")}
                 self.end_as(asked, faulty)
-            # A line of place 0 stands first, if there is one.
+            # The line of the certificate that a root issued comes first, if there is one.
             if asked.stdout.startswith(b"0 "):
                 break
         return asked.stdout, count
 
     def end_as(self, said, faulty):
-        """Ends with the status of a run that failed, and explains the file that is faulty then."""
-        # The files that the error output names are gone afterwards.
+        """Ends with the status of a run that failed, and explains the file that caused it."""
+        # The error output names files of a temporary folder, so it isn't printed.
         words = faulty.get(said.returncode)
         pass_on(self.tool_says("explain", *words) if words else said)
         sys.exit(said.returncode)
 
     def answers(self, questions):
         said = subprocess.run(
-            [sys.executable, HERE / "answer.py"], input=questions, stdout=subprocess.PIPE
+            [sys.executable, there(VERIFIERS)], input=questions, stdout=subprocess.PIPE
         )
         if said.returncode:
             sys.exit(DEVICE)
@@ -148,8 +158,8 @@ class Run:
 
 
 def compare_order(file, chain, count):
-    """Stops unless each of the first certificates is the issuer of the one before it, and each
-    further one the issuer of any before it."""
+    """Stops unless each of the first `count` certificates is the issuer of the one before it, and
+    each further one the issuer of some certificate before it."""
     for place in range(1, len(chain)):
         here = chain[place]
         issued = chain[place - 1 : place] if place < count else chain[:place]
@@ -158,17 +168,17 @@ def compare_order(file, chain, count):
         fault = f"isn't the issuer of {chain[place - 1]}"
         issuer = next((other for other in chain[:place] if other.subject == here.issuer), None)
         if issuer:
-            fault = f"stands after its issuer, {issuer}"
-        order = "the server's certificate has to be first, and each issuer after what it issued"
+            fault = f"comes after its issuer, {issuer}"
+        order = "the server's certificate must be first, followed by each issuer in turn"
         stop(ARGUMENTS, f"{file}: {here} {fault}; {order}")
 
 
 def tell_left_out(chain, count):
-    """Names each certificate that isn't needed."""
+    """Prints each certificate that is ignored."""
     last = chain[count - 1]
     for certificate in chain[count:]:
-        why = f"ROOTS has the issuer of {last}: {last.issuer_text}"
-        print(f"left out: {certificate}, since {why}", file=sys.stderr)
+        why = f"{last} was issued by the root {last.issuer_text}"
+        print(f"{NAME}: ignored {certificate}: {why}", file=sys.stderr)
 
 
 def pass_on(said):
@@ -178,18 +188,17 @@ def pass_on(said):
 
 
 def main():
-    parser = argparse.ArgumentParser(
-        description="Verifies a chain in PEM under roots in PEM, by cert_tool and answer.py."
-    )
-    parser.add_argument("roots", help="trusted certificates in PEM")
-    parser.add_argument("chain", help="the server's certificate and its issuers in PEM")
-    parser.add_argument("--at", default="now", help="now, a date or seconds (default: now)")
-    parser.add_argument("--purpose", default="serverAuth", help="default: serverAuth")
-    parser.add_argument("--tool", default=TOOL, help="the program cert_tool")
+    form = argparse.RawDescriptionHelpFormatter
+    parser = argparse.ArgumentParser(description=__doc__, formatter_class=form)
+    parser.add_argument("roots", metavar="ROOTS")
+    parser.add_argument("chain", metavar="CHAIN")
+    parser.add_argument("--at", default="now", metavar="TIME")
+    parser.add_argument("--purpose", default="serverAuth")
+    parser.add_argument("--tool", default=there(TOOLS), metavar="CERT_TOOL")
     words = parser.parse_args()
     tool = pathlib.Path(words.tool).absolute()
     if not tool.is_file():
-        stop(DEVICE, f"{tool} is missing: `rt run -- --help` in crates/cert_tool builds it")
+        stop(DEVICE, f"{tool} not found: install cert_tool, or give its path with --tool")
     roots, encodings = certificates(words.roots), certificates(words.chain)
     with tempfile.TemporaryDirectory() as folder:
         run = Run(tool, pathlib.Path(folder))
@@ -203,7 +212,7 @@ def main():
         terms = ["--at", words.at, "--purpose", words.purpose]
         verified = run.tool_says("verify", *files, *terms)
         if verified.returncode == REFUSED:
-            # What `verify` hints at on the error output is told here
+            # The hints of `verify` are followed here.
             verified.stderr = b""
         pass_on(verified)
         if verified.returncode == REFUSED:

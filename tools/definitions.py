@@ -1,15 +1,15 @@
 #!/usr/bin/env python3
-"""Which definitions a reader has to trust, and for which claim.
+"""Lists the definitions that a reader has to trust for each claim.
 
     tools/definitions.py            writes the numbers and tables of docs/tables/DEFINITIONS.md
-    tools/definitions.py --check    writes nothing; its status is 1 where that page is out of date,
-                                    or an import names no definition
-    tools/definitions.py CALL..     each definition that the contracts of these calls rest on
+    tools/definitions.py --check    writes nothing; the status is 1 if that page is out of date, or
+                                    an import names no definition
+    tools/definitions.py CALL...    lists the definitions on which the contracts of these calls rest
 
-A CALL is a function (`check`), one of a type (`Issued::audit`), or what a type states of itself
-(`Issued`); its crate may stand before (`cert_desk_checking::check`). A variable of a `λ` that has
-the name of a definition counts as that one, so the list may be too long by such names, and never
-too short but for the kit's `std/specs`, which isn't counted.
+A CALL is a function (`check`, or `cert_desk_checking::check` with its crate), a method
+(`Issued::audit`), or a type with its invariant (`Issued`). The definitions of the kit (`std/specs`)
+aren't counted. A variable of a `λ` with the name of a definition counts as the definition, so the
+list can be too long by such names, and is never too short.
 """
 
 import itertools
@@ -20,7 +20,7 @@ import textwrap
 import sources
 
 PAGE = sources.TOP / "docs" / "tables" / "DEFINITIONS.md"
-PROOFS = "## Proofs that stand among the definitions"
+PROOFS = "## Proofs in `specs/`"
 
 
 class Book:
@@ -86,14 +86,13 @@ def claim(book, words, names):
 
 
 def file_row(file):
-    """The row of a file in the table of its crate, or None if a reader has nothing to read there.
-
-    It has the first sentence of the comment at the head of the file.
-    """
+    """The row of a file in the table of its crate, or None if a reader has nothing to read there:
+    the first sentence of the comment at its head, up to a colon if it is long."""
     count = sum(one.sort != "proof" for one in file.definitions.values())
     head = itertools.takewhile(lambda line: line.startswith("--"), file.lines)
     text = " ".join(line[2:].strip() for line in head).replace("|", "\\|").replace("<", "\\<")
     text = text.partition(". ")[0].rstrip(".:")
+    text = text if len(text.split()) < 16 else text.partition(": ")[0]
     link = f"[`{file.name}`](../../crates/{file.crate}/specs/{file.name}.antt)"
     return f"| {link} | {len(file.lines)} | {count} | {text} |" if count else None
 
@@ -113,7 +112,7 @@ def section(book, crate, own):
 
 
 def proofs(book):
-    """What is said of the proofs that stand among the definitions."""
+    """The paragraph about proofs in `specs/`."""
     found = [one for file in book.files.values() for one in file.definitions.values()
              if one.sort == "proof"]
     direct = set().union(*(call.cites for call in book.ghosts))
@@ -121,12 +120,12 @@ def proofs(book):
     counted = sum(proof.key in direct for proof in found)
     serving = sum(proof.key in behind_them for proof in found) - counted
     told = (
-        f"{len(found)} of them. Nothing has to be read of these. An `impl` names {counted} in "
-        "its ghost members, as that an order is total, and such a member can't import from "
-        f"`proofs/` of its own crate; {serving} serve these"
+        f"There are {len(found)} such proofs, and you don't have to read them. Ghost members name "
+        f"{counted} of them, for example that an order is total, and can import only from `specs/` "
+        f"of their own crate. The other {serving} are used by these"
     )
     left = [proof for proof in found if proof.key not in behind_them]
-    yield filled(told + ("; others belong into `proofs/`:" if left else "."))
+    yield filled(told + (". These belong into `proofs/`:" if left else "."))
     yield "\n".join(f"- `{it.crate}/specs/{it.file}`: `{it.name}` ({it.line})." for it in left)
 
 
@@ -156,7 +155,7 @@ def told(book, names):
     unknown = [name for name in names if not book.find(name)]
     calls = [call for name in names for call in book.find(name)]
     for name in unknown:
-        print(f"no call {name}", file=sys.stderr)
+        print(f"there is no function or type {name}", file=sys.stderr)
     for call in calls:
         print(f"{call.title}: crates/{call.crate}/src/{call.path}:{call.line}")
     cited, kept = {key for call in calls for key in call.cites}, book.rests_on(calls)

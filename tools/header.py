@@ -1,10 +1,11 @@
 #!/usr/bin/env python3
-"""Compares bindings/wurstdrape.h with the sources: each call of crates/cert_desk_c and
-cert_desk_issuing_c with each argument, each struct with each field, and each number of a status, a
-rule, a kind of fault or a reason with the definition that the contracts cite. Then the Rust crate
-and the Python module with the header: each call that Rust declares, and the numbers of both.
+"""Compares bindings/wurstdrape.h with the sources, and the Rust and Python bindings with it.
 
-    tools/header.py     the status is 1 where there is a difference, and each is told
+    tools/header.py     prints each difference; the status is 1 if there is one
+
+In the header it compares the functions of crates/cert_desk_c and cert_desk_issuing_c, the structs,
+and the numbers of statuses, rules, errors and reasons, which the contracts cite; in Rust the
+functions and numbers, and in Python the numbers.
 """
 
 import re
@@ -13,7 +14,7 @@ import sys
 from sources import CRATES, TOP
 
 BINDINGS = TOP / "bindings"
-# Each enumeration by the prefix of its names, and the definition of its numbers.
+# The prefix of the names of each enumeration, and the definition of its numbers.
 NUMBERS = {
     "WD_": ("cert_desk_io/specs/Statuses.antt", "code_of"),
     "WD_FAULT_": ("cert_desk_c/specs/FaultNumbers.antt", "fault_number"),
@@ -21,19 +22,19 @@ NUMBERS = {
     "WD_RULE_": ("cert_desk_rules/specs/Judging.antt", "number"),
     "WD_ORDER_": ("cert_desk_issuing_c/specs/Reasons.antt", "reason_number"),
 }
-# The statuses are the variants of a type of Rust without numbers.
+# In Rust, the statuses are variants without numbers.
 STATUSES = {f"WD_{it}" for it in "DONE REFUSED FAULTY EMPTY ARGUMENTS NO_ROOM MEMORY".split()}
-# Each enumeration of Rust and Python, and the prefix of its names in C.
+# The enumerations of Rust and Python, and the prefix of their names in C.
 ENUMERATIONS = {
     "Status": "WD_", "Rule": "WD_", "ChainFault": "WD_CHAIN_", "FaultKind": "WD_FAULT_",
     "OrderFault": "WD_ORDER_",
 }
-# The types of the sources, as C has them.
+# The types of C for those of the sources.
 TYPES = {"u8": "uint8_t", "u32": "uint32_t", "u64": "uint64_t", "usize": "size_t", "bool": "bool"}
 
 
 def constant(name):
-    """A name as constants of C are written; that of a struct in small letters is its name in C."""
+    """Converts a name to that of a constant in C. In small letters it is that of a struct."""
     return re.sub(r"(?<=[a-z0-9])(?=[A-Z])", "_", name).upper()
 
 
@@ -115,6 +116,9 @@ def numbers_in(path, head, row):
 
 
 def main():
+    if sys.argv[1:]:
+        print(__doc__.strip())
+        return 2 * (sys.argv[1:] != ["--help"])
     calls, structs, numbers = header = of_header()
     types = {name: (result, [kind for kind, _ in inside])
              for name, (result, inside) in calls.items()}

@@ -1,20 +1,20 @@
 #!/usr/bin/env python3
-"""Tries mutants: changes that make a crate wrong, each of which the prover has to reject.
+"""Tries mutants: changes that make a crate wrong, each of which the prover must reject.
 
-    tools/mutants.py try [NAME..]     tries the mutants of these crates, or of these names, or all
-    tools/mutants.py check            reports mutants that no longer apply, and a page out of date
+    tools/mutants.py try [NAME...]    tries the mutants of these crates or of these names (all)
+    tools/mutants.py check            reports mutants that no longer apply, and an outdated page
     tools/mutants.py page             writes the tables of tests/MUTANTS.md from the files
 
-    try --marked     tries those with a line `rejected:`, and writes these lines and the page anew
-    try --untried    does so for those of them that say `rejected: not tried yet`
-    try --built DIR  takes the libraries that the checkout DIR has built; else builds them here
+    try --marked     tries those with a line `rejected:`, and updates these lines and the page
+    try --untried    tries those of them that say `rejected: not tried yet`, in the same way
+    try --built DIR  uses the libraries that were built in the checkout DIR; otherwise builds them
 
 The mutants of a crate are in crates/NAME/mutants.txt; tests/MUTANTS.md describes the format. They
-are tried in a copy of the crate. Mutants that change different functions share one check, of these
-functions alone. What isn't rejected there is tried by itself, in the functions that it changes, in
-their modules, and at last with the whole crate. Four crates are tried at once, or as many as the
-variable SIDE_BY_SIDE says. A mutant with a line `vectors:` is one that the prover can't reject: the
-program that this line names answers its test vectors. The status is 0 if all were rejected.
+are tried in a copy of the crate. Mutants of different functions share one check of these functions.
+A mutant that isn't rejected there is tried alone: in its functions, in their modules, and with the
+whole crate. Four crates are tried at the same time, or as many as the variable SIDE_BY_SIDE says. A
+mutant with a line `vectors:` can't be rejected by the prover; the test vectors of the program on
+that line detect it. The status is 0 if all mutants were rejected.
 """
 
 import concurrent.futures
@@ -34,9 +34,10 @@ from sources import TOP
 
 PAGE = TOP / "tests" / "MUTANTS.md"
 TABLES = "\n## What was rejected, and when\n"
+COLUMNS = "| Mutant | What it does | What rejects it | Date | Commit |\n|---|---|---|---|---|"
 UNTRIED = "not tried yet"
 MUTANT = re.compile(r"^## (.*?)(?:: (.*))?\n((?:(?!## ).*\n)*)", re.M)
-# What stands below such a head: a key, a change, or another line.
+# What follows such a heading: a key, a change, or another line.
 WITHIN = re.compile(
     r"^(?:(file|vectors|rejected): (.*)\n|((?:-.*\n)+)((?:\+.*\n)*)|(.+)\n)", re.M)
 LINE = re.compile(r"(?:note: )?(?:\./)?(?P<path>(?:src|proofs)/\S+?):(?P<line>\d+):\d+: ")
@@ -77,7 +78,7 @@ class Mutant:
         for file, old, new in self.changes:
             text = texts.get(file) or (crate / file).read_text()
             if text.count(old) != 1:
-                raise ValueError(f"{file} has this {text.count(old)} times, not once: {old}")
+                raise ValueError(f"{file} contains this {text.count(old)} times, not once: {old}")
             places.append((file, text[: text.index(old)].count("\n")))
             texts[file] = text.replace(old, new)
         return texts, places
@@ -103,7 +104,7 @@ def parse(path):
             elif other and not mutant.file:
                 mutant.text += f" {other}"
             else:
-                sys.exit(f"{path.relative_to(TOP)}: {name}: this is no part of it: {old or other}")
+                sys.exit(f"{path.relative_to(TOP)}: {name}: unexpected line: {old or other}")
         yield mutant
 
 
@@ -305,10 +306,7 @@ def try_crate(crate, mutants, built):
 
 
 def try_vectors(mutant):
-    """Returns the test vectors that a program answers otherwise with a mutant, or None.
-
-    The line `vectors:` names the program, and the first word of the questions.
-    """
+    """Returns the test vectors, named by the line `vectors:`, whose answers change, or None."""
     program, word = mutant.vectors.split()
     with tempfile.TemporaryDirectory() as folder:
         crates = pathlib.Path(folder) / "top/crates"
@@ -355,19 +353,21 @@ def mark(found):
 
 
 def page():
-    """Returns the page: its text as it is, and its tables from the marks."""
-    lines = [PAGE.read_text().partition(TABLES)[0] + TABLES]
-    lines += ["| Mutant | What it does | What rejects it | Date | Commit |"]
-    lines += ["|---|---|---|---|---|"]
-    marked = [it for it in read_all() if it.rejected]
-    for it in (it for it in marked if it.rejected != UNTRIED):
+    """Returns the page: its text as it is, but for the counts, and its tables from the marks."""
+    every, lines = read_all(), [COLUMNS]
+    waiting = [f"- `{it.title}`" for it in every if it.rejected == UNTRIED]
+    for it in (it for it in every if it.rejected and it.rejected != UNTRIED):
         day, commit, clause = it.rejected.split(" ", 2)
         link = f"[`{it.title}`](../crates/{it.crate}/mutants.txt)"
-        lines.append(f"| {link} | {it.text} | {clause} | {day} | {commit} |")
-    waiting = [f"- `{it.title}`" for it in marked if it.rejected == UNTRIED]
-    if waiting:
-        lines += ["", "These have not been tried in their present form:", "", *waiting]
-    return "\n".join(lines) + "\n"
+        does = it.text.partition(" Test vectors notice")[0]
+        lines.append(f"| {link} | {does} | {clause} | {day} | {commit} |")
+    vectors = sum(bool(it.vectors) for it in every)
+    counts = f"""- {len(every):,} mutants are in files of {len({it.path for it in every})} crates.
+- {len(lines) - 1} have a recorded result, listed below; only test vectors detect {vectors} of them.
+- {len(waiting)} have to be tried again, because they or their code changed.\n"""
+    text = re.sub(r"^- [\d,]+ mutants are .*?\n(?=\n)", counts, PAGE.read_text(), 1, re.M | re.S)
+    lines += ["", "These have not been tried in their present form:", "", *waiting] * bool(waiting)
+    return "\n".join([text.partition(TABLES)[0] + TABLES, *lines]) + "\n"
 
 
 def check(mutants):
@@ -400,7 +400,7 @@ def main():
     if words.verb == "try":
         unknown = names - {name for it in mutants for name in (it.crate, it.name)}
         if unknown:
-            sys.exit(f"no crate and no mutant is called {', '.join(sorted(unknown))}")
+            sys.exit(f"no crate or mutant has the name {', '.join(sorted(unknown))}")
         mutants = [it for it in mutants if re.match(words.marks, it.rejected or "")]
         mutants = [it for it in mutants if not names or {it.crate, it.name} & names]
         found = try_all(mutants, words.built and words.built.resolve())

@@ -1,6 +1,10 @@
 #!/usr/bin/env python3
-"""Prints what the scripts miss on this machine, beside Bash and Python 3.10, by script. Each script
-calls `check`, by which it ends with a list of the packages of Debian 12 that it misses."""
+"""Lists the Debian 12 packages that scripts need and this machine lacks, besides Bash and Python.
+
+    tools/needs.py      prints a line for each script
+
+`./x` calls `check` before it runs a script; if a package is missing, that names it.
+"""
 
 import importlib.util
 import pathlib
@@ -8,14 +12,14 @@ import shutil
 import sys
 
 TOP = pathlib.Path(__file__).resolve().parent.parent
-# The package of a command that isn't named after it, or of a path.
+# The package of a command with another name, or of a path or module.
 PACKAGES = {
     "cc": "gcc", "ld": "binutils", "rt": "the kit (its bin/ in PATH)", "/usr/bin/time": "time",
     "/usr/include/mbedtls": "libmbedtls-dev", "/usr/include/openssl": "libssl-dev",
     "/usr/share/ca-certificates/mozilla": "ca-certificates",
     "cryptography": "python3-cryptography", "pyasn1_modules": "python3-pyasn1-modules",
 }
-# By script, what it needs: commands, paths, and modules of Python.
+# What each script needs: commands, paths, and Python modules.
 NEEDS = {
     "bench/gate.py": "rt",
     "bench/speed.py": "rt gcc openssl valgrind /usr/bin/time /usr/include/mbedtls "
@@ -40,7 +44,7 @@ NEEDS = {
 
 
 def missing(script):
-    """The packages that a script needs and that aren't here."""
+    """Yields the packages that a script needs and that aren't installed."""
     for name in NEEDS.get(script, "").split():
         package = PACKAGES.get(name, name)
         if "/" in name:
@@ -54,7 +58,7 @@ def missing(script):
 
 
 def check(script):
-    """Ends the script, with what it misses, where it misses something."""
+    """Exits with a message if a package is missing."""
     name = str(pathlib.Path(script).resolve().relative_to(TOP))
     packages = list(dict.fromkeys(missing(name)))
     if packages:
@@ -65,5 +69,8 @@ def check(script):
 
 
 if __name__ == "__main__":
+    if sys.argv[1:]:
+        print(__doc__.strip())
+        sys.exit(2 * (sys.argv[1:] != ["--help"]))
     for each in NEEDS:
-        print(f"{each}: {', '.join(missing(each)) or 'nothing is missing'}")
+        print(f"{each}: {', '.join(missing(each)) or 'complete'}")

@@ -1,9 +1,14 @@
 #!/usr/bin/env bash
-# Turns the PEM certificates of its standard input into DER, one behind the other, on its standard
-# output. Other text, as that of `openssl s_client` and `openssl pkcs12`, is passed over.
-#   tools/pem_to_der.sh [--reverse]     --reverse: the last one first, as of a TLS bundle
+# usage: pem_to_der.sh [--reverse] <FILE.pem >FILE.der
+#
+# Converts certificates from PEM to DER, with nothing between them. --reverse puts the last one
+# first, which turns the order of TLS into that of `cert_tool verify`. Other text, such as the
+# output of `openssl s_client`, is ignored. The status is 1 if there is no certificate.
 set -euo pipefail
-order=$([ "${1-}" = --reverse ] && echo r || true)
+case "$#${1-}" in
+    0 | 1--reverse) order=${1:+r} ;;
+    *) sed -n '2,6s/^# \?//p' "$0"; [ "$1" = --help ] && exit || exit 2 ;;
+esac
 work=$(mktemp -d)
 trap 'rm -rf "$work"' EXIT
 awk -v "work=$work" '
@@ -13,6 +18,8 @@ awk -v "work=$work" '
     }
     inside { print > file }
     /^-----END (TRUSTED |X509 )?CERTIFICATE-----/ { inside = 0; close(file) }'
-for file in $(find "$work" -type f | sort -n$order); do
+files=$(find "$work" -type f | sort -n$order)
+[ -n "$files" ] || { echo "pem_to_der.sh: no certificate in PEM on standard input" >&2; exit 1; }
+for file in $files; do
     openssl x509 -in "$file" -outform DER
 done

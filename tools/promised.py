@@ -1,14 +1,12 @@
 #!/usr/bin/env python3
-"""Compares what a version promises (CHANGELOG.md) with what another commit promised.
+"""Compares the promises of this version (CHANGELOG.md) with those of another commit.
 
     tools/promised.py COMMIT
 
-A line names each part that is gone, says otherwise, or is new: of the facades the declaration of a
-public item, with its fields that are public, each trait that an impl or a derive gives it, and of
-each function the signature and each clause; of wurstdrape.h calls and numbers; what the Rust crate
-and the Python module have public. The last line says which part of the number rises. Whether a
-definition that a clause cites means the same, and what CLI promises of the programs, it doesn't
-know.
+Prints a line for each promise that was removed, changed or added: declarations, public fields and
+traits of the public items of facades; signatures and clauses of functions; functions and numbers of
+wurstdrape.h; public names of the Rust crate and the Python module. The last line says which part of
+the version number must rise. It can't compare the meanings of definitions, nor what CLI promises.
 """
 
 import pathlib
@@ -123,7 +121,7 @@ class Facades:
 def clauses(path, call):
     """The signature of a function, and each clause of its contract under its name."""
     name, found = path, {}
-    for line in call.text.splitlines():
+    for line in filter(str.strip, sources.COMMENT.sub("", call.text).splitlines()):
         clause = sources.CLAUSE.match(line)
         if clause:
             name = " ".join(word for word in (path, *clause.groups()) if word)
@@ -191,13 +189,13 @@ def main():
     now = promised(sources.TOP)
     gone, new = sorted(was.keys() - now.keys()), sorted(now.keys() - was.keys())
     others = sorted(part for part in was.keys() & now.keys() if was[part] != now[part])
-    for told, parts in (("gone", gone), ("otherwise", others), ("new", new)):
+    for told, parts in (("removed", gone), ("changed", others), ("new", new)):
         print("".join(f"{told:10}{part}\n" for part in parts), end="")
     rises = "first" if gone else "second" if others or new else "third"
     if others and not gone:
-        rises += " (the first where one says less, or asks more of a caller)"
-    told = f"{len(gone)} gone, {len(others)} otherwise, {len(new)} new, of {len(now)}"
-    print(f"{told}: behind {version} the {rises} part of the number rises")
+        rises += " (or the first, if a changed one is weaker or requires more of a caller)"
+    told = f"{len(gone)} removed, {len(others)} changed, {len(new)} new, of {len(now)} promises"
+    print(f"{told}: after {version}, this part of the version number must rise: the {rises}")
     return 0
 
 

@@ -1,7 +1,6 @@
-"""What the scripts beside this file read of the sources: crates, definitions, contracts, items.
+"""Parses the sources for the scripts of this folder: crates, definitions, contracts and items.
 
-It reads crates.txt, the `specs/` and the `src/` of each crate, as `rt fmt` lays them out, and
-proves nothing.
+It parses crates.txt, and `specs/` and `src/` of each crate in the layout of `rt fmt`.
 """
 
 import argparse
@@ -11,12 +10,12 @@ import re
 
 TOP = pathlib.Path(__file__).resolve().parent.parent
 CRATES = TOP / "crates"
-# The most columns of a line, but for rows of tables and what programs print.
+# The largest number of columns of a line, except in tables and in the output of programs.
 WIDTH = 100
 
 
 def arguments(told):
-    """A reader of a script's arguments, given what `--help` says."""
+    """Returns a parser of a script's arguments, given the text of `--help`."""
     form = argparse.RawDescriptionHelpFormatter
     return argparse.ArgumentParser(description=told, formatter_class=form)
 

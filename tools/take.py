@@ -1,16 +1,16 @@
 #!/usr/bin/env python3
-"""Copies crates of this repository, with all that they stand on, into another one.
+"""Copies crates of this repository, with their dependencies, into another repository.
 
-    tools/take.py CRATE.. FOLDER            copies them into FOLDER/crates, and adds their lines to
-                                            FOLDER/crates.txt; a crate that is there is left
-    tools/take.py --again CRATE.. FOLDER    exchanges those that are there, too
+    tools/take.py [--again] [--edits] [--release RELEASE] CRATE... FOLDER
 
-With --release RELEASE it lays the libraries of a release there, as tools/release.py does, so that
-`rt` proves none of them again.
+Copies src/, specs/ and proofs/ of each crate to FOLDER/crates, adds their lines to
+FOLDER/crates.txt, and writes the version of each crate to FOLDER/TAKEN.md. A crate that exists
+there is kept.
 
-Of a crate it takes src/, specs/ and proofs/; with --edits must-fail/ too, which `rt ci` tries
-there. It writes into FOLDER/TAKEN.md of which version each crate is. It needs nothing but Python;
-with --release the kit and zstd.
+--again      replaces existing crates
+--edits      also copies must-fail/, the mutants that `rt ci` tries
+--release    also installs the proved libraries of a release, as tools/release.py does, so that `rt`
+             doesn't prove them again; this needs the kit and zstd
 """
 
 import pathlib
@@ -22,7 +22,7 @@ import sources
 
 
 def note(path, taken):
-    """Writes of which version each crate is: those that were taken now of this one."""
+    """Writes the version of each crate. Those that were copied now have the present version."""
     versions, head = {}, ""
     for line in path.read_text().splitlines() if path.exists() else []:
         head = head if not line or line.startswith("- ") else line
@@ -37,14 +37,14 @@ def note(path, taken):
 
 
 def take(lines, folder, again, parts):
-    """Copies these parts of crates, whose lines of crates.txt are given; gives their names."""
+    """Copies these parts of the crates, given their lines of crates.txt. Returns the names."""
     (folder / "crates").mkdir(parents=True, exist_ok=True)
     listing, taken = folder / "crates.txt", []
     text = listing.read_text() if listing.exists() else ""
     for name, line in lines.items():
         target = folder / "crates" / name
         if target.exists() and not again:
-            print(f"{name}: is there, and is left")
+            print(f"{name}: already there, and kept (--again replaces it)")
             continue
         for part in parts:
             shutil.rmtree(target / part, ignore_errors=True)
@@ -69,7 +69,7 @@ def main():
     given, rows, crates = words.parse_args(), sources.rows(), sources.dependencies()
     unknown = [name for name in given.names if name not in crates]
     if unknown:
-        words.error(f"no crate of this repository: {' '.join(unknown)}")
+        words.error(f"this repository has no crate {unknown[0]}")
     if given.release:
         release.same_kit(release.read(given.release))
     lines = {name: rows[name] for name in sources.closure(given.names)}

@@ -1,11 +1,10 @@
 #!/usr/bin/env python3
-"""Makes the wheel of the Python module (PEP 427), which holds the shared libraries and no other
-code that was compiled.
+"""Builds the wheel of the Python module (PEP 427), with the shared libraries.
 
-    tools/wheel.py CALLS FOLDER     CALLS is what bindings/build.sh made; the wheel is written to
-                                    FOLDER, and its name printed
+    tools/wheel.py BINDINGS FOLDER      BINDINGS is the result of bindings/build.sh; the wheel is
+                                        written to FOLDER, and its path printed
 
-Of the same files it is the same wheel, octet for octet.
+The same files give the same wheel, byte for byte.
 """
 
 import base64
@@ -22,7 +21,7 @@ INFO = f"wurstdrape-{version()}.dist-info"
 METADATA = f"""Metadata-Version: 2.1
 Name: wurstdrape
 Version: {version()}
-Summary: Certificates (RFC 5280), revocation lists and requests, read and judged by proved code
+Summary: Parses and validates X.509 certificates, CRLs and CSRs; formally verified
 License: MIT OR Apache-2.0
 Requires-Python: >=3.9
 Provides-Extra: verifier
@@ -36,16 +35,17 @@ Tag: {TAG}
 
 
 def row(name, octets):
-    """The row of a file in RECORD."""
+    """Returns the row of a file in RECORD."""
     digest = base64.urlsafe_b64encode(hashlib.sha256(octets).digest()).rstrip(b"=").decode()
     return f"{name},sha256={digest},{len(octets)}\n"
 
 
 def main():
     if len(sys.argv) != 3:
-        sys.exit(__doc__)
+        print(__doc__.strip())
+        sys.exit(2 * (sys.argv[1:] != ["--help"]))
     calls, folder = map(pathlib.Path, sys.argv[1:])
-    # With the verifier that reads the lines of questions.
+    # answer.py verifies the signatures of questions.
     files = [*sorted((TOP / "bindings/python/src/wurstdrape").glob("*.py")),
              TOP / "examples/answer.py",
              calls / "libwurstdrape.so", calls / "libwurstdrape_issue.so"]

@@ -252,7 +252,7 @@ def rows():
     """Yields words, files, status and output of each row of `cert_tool`, and of each listing among
     those of `test_cert_rows`."""
     for words, files, (status, output, _) in served.rows():
-        # What `split` writes is no text, and no call answers it.
+        # `split` writes bytes that aren't text, and no call of the module answers it.
         yield words, files, status, output.decode(errors="replace")
     folder = TOP / "crates" / "test_cert_rows"
     asked, told = ((folder / part).read_text().split("\n") for part in ("stdin", "stdout"))

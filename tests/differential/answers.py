@@ -1,9 +1,9 @@
 #!/usr/bin/env python3
 """Compares `examples/answer.py` with `openssl verify`.
 
-Signatures are right, or they were made in another way than their algorithm, parameters or key say.
-Each case is a root and a certificate below it. This script builds both (RFC 5280 4.1), and Python's
-`cryptography` signs them. It prints a line for each case; the status is 1 if the programs differ.
+Each case is a root and a certificate below it, which this script builds (RFC 5280 4.1) and Python's
+`cryptography` signs: with a valid signature, or with one that contradicts its algorithm, parameters
+or key. It prints a line for each case. The status is 1 if answer.py and OpenSSL differ.
 """
 
 import pathlib
@@ -166,6 +166,9 @@ def openssl_says(folder, root, leaf):
 
 
 def main():
+    if sys.argv[1:]:
+        print(__doc__.strip())
+        return 2 * (sys.argv[1:] != ["--help"])
     differ = 0
     with tempfile.TemporaryDirectory() as folder:
         for what, key, signed_by, sign in RIGHT + LYING:
@@ -175,12 +178,12 @@ def main():
             words = (it.hex() for it in (key, signed_by, part, signature))
             why = answer.refusal(f"0 0 {' '.join(words)}".encode())
             theirs = openssl_says(pathlib.Path(folder), root, leaf)
-            verdict = f"no ({why})" if why else "yes"
+            verdict = f"rejected ({why})" if why else "accepted"
             if theirs != (why is None):
                 differ += 1
-                verdict += f", and OpenSSL {'yes' if theirs else 'no'}"
+                verdict += f"; OpenSSL {'accepts' if theirs else 'rejects'} it"
             print(f"{what}: {verdict}")
-    print(f"{len(RIGHT)} right cases, {len(LYING)} that lie, {differ} differ from OpenSSL")
+    print(f"{len(RIGHT)} valid and {len(LYING)} forged signatures, {differ} differ from OpenSSL")
     return differ > 0
 
 

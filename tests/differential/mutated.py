@@ -2,14 +2,14 @@
 """Changes encodings, and compares the answers of a program of test vectors with reader.py.
 
     mutated.py PROGRAM [--runs N] [--seed N]          values with changes
-    mutated.py PROGRAM --spellings [CERTIFICATE..]    other encodings of each header
+    mutated.py PROGRAM --spellings [CERTIFICATE...]   other encodings of each header
 
-PROGRAM is test_cert_rows, built. The status is 0 if no answer differs. CI doesn't run it.
+PROGRAM is the built test_cert_rows. The status is 0 if no answer differs. CI doesn't run it.
 
-It changes values of the test vectors, of examples/ and of ca-certificates at one to three places of
-their structure, and mostly corrects the lengths around a change. The program has to say whether the
-result is such a value; of a stream, how many certificates it begins with, and where its fault is;
-of an orders file, which line is faulty. 1,000 questions get 20 seconds of processor and 64 MiB.
+It changes values of the test vectors, of examples/ and of ca-certificates in one to three places,
+and mostly corrects the lengths around a change. The program has to report whether the result is a
+value of its type; for a chain, the number of certificates at its beginning, and where its error is;
+for an orders file, the line with the error. 1,000 questions get 20 seconds of processor and 64 MiB.
 
 `--spellings` encodes the length of each header of the certificates (those of ca-certificates by
 default) in one byte more than it needs, makes it one smaller and one larger, without and with the
@@ -189,9 +189,9 @@ def changes(program, count, seed):
             taken[kind] += takes
             if not re.fullmatch(told, line):
                 wrong += 1
-                print(f"{words}\n    wanted {told}\n    got {line[:300]}")
+                print(f"{words}\n    expected {told}\n    got {line[:300]}")
     for kind, number in sorted(tried.items()):
-        print(f"{kind}: {number} runs, {taken[kind]} taken")
+        print(f"{kind}: {number} runs, {taken[kind]} accepted")
     return wrong
 
 
@@ -237,7 +237,7 @@ def spellings(program, paths):
             taken[kind] += takes
             if takes != reader.spells("certificate", octets):
                 wrong[kind] += 1
-                print(f"{path}: {kind}: taken {takes}: {octets.hex()}")
+                print(f"{path}: {kind}: accepted: {takes}: {octets.hex()}")
             refused[kind] += takes and not is_read_by_openssl(octets)
     print(f"{len(paths)} certificates")
     for kind, count in tried.items():
@@ -257,7 +257,7 @@ def main():
         wrong = changes(given.program, given.runs, given.seed)
     else:
         wrong = spellings(given.program, given.spellings)
-    print(f"{wrong} answers that differ")
+    print(f"{wrong} answers differ")
     return wrong > 0
 
 

@@ -1,12 +1,12 @@
 #!/usr/bin/env python3
 """Compares the remarks of `cert_tool explain` with those of an independent reader.
 
-    remarks.py CERT_TOOL FILE..     reads certificates and CRLs in DER or PEM; prints a line for
+    remarks.py CERT_TOOL FILE...    FILE is a certificate or a CRL in DER or PEM; prints a line for
                                     each difference, and counts; the status is 1 if any differs
 
-The reader is written from the text of RFC 5280. It makes no remarks on the content of an extension
-that isn't a value of its type, and doesn't compare the line that reports one. `cert_tool` has to
-read what tests/reader.py reads, and nothing else.
+The reader is written from the text of RFC 5280. Remarks on the content of an extension that can't
+be decoded aren't compared. `cert_tool` has to accept what tests/reader.py accepts, and nothing
+else.
 """
 
 import argparse
@@ -29,7 +29,7 @@ def inside(octets):
     """Returns the encodings within the first one."""
     for _, contents, _ in encodings(octets):
         return list(encodings(contents))
-    raise ValueError("no octets")
+    raise ValueError("there are no bytes")
 
 
 def value_in(content):
@@ -348,7 +348,7 @@ def main():
             counts[f"read as a {kind}"] += found != [UNREAD]
             for text in sorted(set(wanted) ^ set(found)):
                 differences += 1
-                print(f"{path}: {kind}: {'wanting' if text in wanted else 'told'}: {text}")
+                print(f"{path}: {kind}: {'missing' if text in wanted else 'unexpected'}: {text}")
     for text, count in counts.most_common():
         print(f"{count} {text}")
     print(f"{differences} differences")

@@ -25,7 +25,7 @@ import reader
 from der import bits, extension, identifier, sequence, tlv
 
 FOLDER = TOP / "crates" / "test_cert_rows"
-MADE = "# Cuts and fronts of every stream of the rows above"
+MADE = "# Cuts and prefixes of every stream above"
 
 # Issuing (RFC 5280 4.1), as docs/CLI.md specifies it.
 
@@ -331,7 +331,7 @@ def rows_wanted(rows):
 
 def main():
     parser = argparse.ArgumentParser(description=__doc__.splitlines()[0])
-    parser.add_argument("--write", action="store_true", help="write the rows that differ")
+    parser.add_argument("--write", action="store_true", help="write the answers that differ")
     is_written = parser.parse_args().write
     paths = [FOLDER / "stdin", FOLDER / "stdout"]
     rows = list(zip(*(path.read_text().split("\n") for path in paths), strict=True))

@@ -1,14 +1,13 @@
 #!/usr/bin/env python3
 """Doubles the size of hostile inputs, and compares processor time and memory.
 
-    hostile.py FOLDER [NAME..]
+    hostile.py FOLDER [NAME...]
 
-FOLDER contains the programs cert_desk_program, test_der_rows and test_cert_rows, built. Names
-select inputs. The time is that of the fastest of three runs, user and system. It prints of each
-input its size in bytes, the times for half of it and for all of it, their quotient, and the peak of
-resident memory in bytes for each byte of input, which includes the memory that the program takes by
-itself. The status is 1 if a quotient is more than 2.6, or if a run exits with a status that isn't
-expected. It is not part of CI, and needs /usr/bin/time.
+FOLDER contains the built programs cert_desk_program, test_der_rows and test_cert_rows. NAME selects
+inputs (default: all). For each input it prints the size in bytes, the processor times for half of
+the input and for all of it (of the fastest of three runs), their quotient, and the peak of resident
+memory, including that of the program, per byte of input. The status is 1 if a quotient is above
+2.6, or if a run exits with an unexpected status. CI doesn't run it; it needs /usr/bin/time.
 """
 
 import argparse
@@ -149,7 +148,7 @@ INPUTS = {
     "countries of a subscriber": (130_000, lambda n: orders(ROOT, named(n, "C=")), {0}),
     "orders": (10_000, lambda n: orders(ROOT, *["CN=s"] * (n - 1)), {0, 1}),
     "falling members": (10_000, falling, {0}),
-    "octet by octet": (1_000_000, octet_by_octet, {0}),
+    "byte by byte": (1_000_000, octet_by_octet, {0}),
 }
 
 
@@ -180,7 +179,7 @@ def is_borne(programs, name):
         times.append(min(spent))
         if not set(statuses) <= ends:
             is_right = False
-            print(f"{name}: {number}: ended with {set(statuses)}")
+            print(f"{name}: {number}: unexpected exit status {set(statuses)}")
     size = sum(map(len, made[2].values()))
     grown = times[1] / max(times[0], 0.005)
     mark = " TOO MUCH" if grown > 2.6 else ""

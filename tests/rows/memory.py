@@ -1,8 +1,8 @@
 #!/usr/bin/env python3
-"""Lets each allocation of a program fail in turn.
+"""Lets each allocation of a program fail in turn, and checks the results.
 
     memory.py PROGRAM STDIN [FROM [STEP]]    a program of test vectors and its questions
-    memory.py --run PROGRAM [ARGUMENT..]     a run of another program
+    memory.py --run PROGRAM [ARGUMENT...]    a run of another program
 
 It asks each question, from FROM on every STEPth, in a run of its own, followed by the first
 question of the file, and lets each allocation of that run fail in turn. Each of the two answers has
@@ -117,7 +117,7 @@ def is_right(runs):
             found = kind(ample, status, text) or "answers that are none of these"
             counts.update(["requests", found])
             if found.startswith("answers"):
-                print(f"{name[:200]}: request {number}: status {status}: {text[:300]!r}")
+                print(f"{name[:200]}: allocation {number}: status {status}: {text[:300]!r}")
     print(", ".join(f"{count} {what}" for what, count in counts.items()), flush=True)
     return not counts["answers that are none of these"]
 
@@ -128,7 +128,7 @@ def of_rows(folder, program, table, start="0", step="1"):
     asked = [it for it in questions if len(it) < 700 or not it.startswith(("cuts ", "fronts "))]
     cuts = sorted((it for it in asked if it.startswith("cuts ")), key=len)
     others = [it for it in asked if not it.startswith("cuts ")]
-    print(f"{len(questions) - len(asked)} questions left out")
+    print(f"{len(questions) - len(asked)} questions skipped")
 
     def run(question):
         pair = [question, questions[0]]
@@ -149,8 +149,8 @@ def main(words):
     how = of_run if words[:1] == ["--run"] else of_rows
     words = words[how is of_run :]
     if not words or words[0].startswith("-"):
-        print(__doc__, file=sys.stderr)
-        return 2
+        print(__doc__.strip())
+        return 2 * (words != ["--help"])
     needs.check(__file__)
     with tempfile.TemporaryDirectory() as folder:
         build = ["gcc", "-O1", "-shared", "-fPIC", "-o", f"{folder}/memory.so", HERE / "memory.c"]

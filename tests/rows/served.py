@@ -5,13 +5,13 @@
     served.py           compares the stdin on which CI runs crates/cert_tool, and the stdout that it
                         expects, with what is made of the vectors
     served.py --write   writes both: the vectors, files with names that a hint quotes, a request
-                        without words, and a truncated one
+                        without arguments, and a truncated one
 
-The vectors are in crates/cert_tool/rows.txt. A vector is a line of words, each after one blank. The
-lines of the output follow, or its bytes in base 16 if it is no text; then the lines of the error
-output, each after `! `; then the status after `=`. Empty lines and lines that begin with `#` are
-skipped. The files that a vector names are sent with it (data/ and files.txt). A vector that names a
-folder is left out, since a folder can't be sent.
+The vectors are in crates/cert_tool/rows.txt. A vector is a line of arguments, each after one space.
+The lines of the output follow, or its bytes in hexadecimal if it isn't text; then the lines of the
+error output, each after `! `; then the status after `=`. Empty lines and lines that begin with `#`
+are skipped. The files that a vector names are sent with it (data/ and files.txt). A vector that
+names a folder is skipped, since a folder can't be sent.
 """
 
 import argparse
@@ -83,7 +83,7 @@ def run_on():
     asked = [*rows(), *hinted()]
     requests = [request(words, sent) for words, sent, _ in asked]
     answers = [answer(*told) for _, _, told in asked]
-    # No words; a file that isn't sent; the size of a frame without the frame.
+    # No arguments; a file that isn't sent; the size of a frame without the frame.
     requests += [frame(b""), request(["split", "chain.der"], {"none.der": b""})]
     answers += [answer(4, b"", b""), answer(5, b"", b'cannot open "chain.der"\n')]
     requests.append((100).to_bytes(4, "big") + b"cut")
@@ -100,7 +100,7 @@ def compare(program):
             print(f"differs: {' '.join(words)}: {told!r}")
     if (end := tool.end()) != (0, b"", b""):
         sys.exit(f"at the end of the input: {end!r}")
-    print(f"{len(asked)} rows, {wrong} differ")
+    print(f"{len(asked)} test vectors, {wrong} differ")
     return wrong
 
 

@@ -1,19 +1,19 @@
 #!/usr/bin/env python3
-"""Has cert_tool validate the chains of six other projects' tests, and writes SUITES.md.
+"""Validates the chains of six other projects' tests with cert_tool, and writes SUITES.md.
 
     suites.py CERT_TOOL [FOLDER]
 
 CERT_TOOL is the program. If it is in a folder out/, the page says that `rt` proved and built it.
-The script fetches Debian's sources of six projects into FOLDER, some 400 MB, and a second run uses
-them again. It writes the tables of the page anew, and keeps its text.
+The script downloads Debian's sources of six projects to FOLDER, some 400 MB, unless they are there.
+It updates the tables of the page, and keeps its text.
 
-Each reader below yields the tests of one project. A test that it can't parse would be lost in
-silence, so there is a minimum for each project. Since cert_tool builds no paths, this script tries
-each path from the end-entity certificate to an anchor, by names; a chain is trusted if one of its
-paths is. examples/answer.py verifies the signatures. If a suite expects another result, the
-difference gets a class: of a trusted chain, what the suite tests and cert_tool doesn't; of a
-rejected chain, the rule that it breaks. The status is 1 if a chain is trusted that has to be
-rejected by a rule of cert_tool, or if a difference has no class.
+Each reader below yields the tests of one project. A test that can't be parsed would go unnoticed,
+so there is a minimum for each project. Since cert_tool builds no paths, this script tries each path
+from the end-entity certificate to an anchor, by names; a chain is trusted if one of its paths is.
+examples/answer.py verifies the signatures. If a suite expects another result, the difference gets a
+class: for a trusted chain, what the suite tests and cert_tool doesn't; for a rejected chain, the
+rule that it breaks. The status is 1 if a chain is trusted although a rule of cert_tool should
+reject it, or if a difference has no class.
 """
 
 import argparse
@@ -276,7 +276,7 @@ def read_all(folder):
     for package, (reader, least) in READERS.items():
         found = list(reader(folder / package))
         if len(found) < least:
-            raise ValueError(f"{package}: {len(found)} chains are read, {least} at least are there")
+            raise ValueError(f"{package}: only {len(found)} of at least {least} chains were parsed")
         version = packed(folder, package).name.partition("_")[2].partition(".orig")[0]
         versions[found[0].suite.partition(",")[0]] = version
         tests += found
@@ -322,20 +322,20 @@ LOOSER = {
     "name constraints": r"[Nn]ame ?[Cc]onstraint|type confusion|Too many names",
     "strength": r"auth level|INSECURE_ALGORITHM|BAD_(MD|PK|KEY)|too weak|verify_depth|"
                 r"rsa pss: chain with (sha1|diff)",
-    "trust settings": r"with trust settings",
-    "settings": r"x509_strict|VERIFY_DO_NOT_ALLOW_SAME",
-    "uses of the end's key": r"does not allow the requested usage|explicit curve leaf",
+    "trust settings of OpenSSL": r"with trust settings",
+    "strict mode": r"x509_strict|VERIFY_DO_NOT_ALLOW_SAME",
+    "key usage of the end entity": r"does not allow the requested usage|explicit curve leaf",
     "versions": r"with version that does not allow it",
     "anchors": r"(?!)",
 }
 # Why chains are rejected that suites trust: the class, and what cert_tool reports.
 STRICTER = {
     "critical extensions": r"UnweighedCritical",
-    "ends that are anchors": r"WrongIssuer.*is an anchor itself",
-    "prepared names": r"WrongIssuer.*names that differ",
+    "the end entity is an anchor": r"WrongIssuer.*is an anchor itself",
+    "names that differ in bytes": r"WrongIssuer.*names that differ",
     "algorithms": r"WrongSignature.*no answer",
-    "authorities": r"NotAuthority",
-    "encodings": r"(fault|MalformedExtension|anchors)",
+    "not a CA": r"NotAuthority",
+    "not DER": r"(fault|MalformedExtension|anchors)",
 }
 
 
@@ -489,8 +489,8 @@ def tables(all_judged, versions):
         found = [True, good, agrees, not agrees and not good, not agrees and good]
         counts[one.test.suite].update(dict(enumerate(found)))
         total.update(dict(enumerate(found)))
-    heads = ["Suite", "Version", "Chains", "To be trusted", "Agree",
-             "Trusted, rejected by the suite", "Rejected, trusted by the suite"]
+    heads = ["Suite", "Version", "Chains", "Suite trusts", "Same result", "Only Wurstdrape trusts",
+             "Only the suite trusts"]
     rows = [[suite, versions[suite.partition(",")[0]], *found.values()]
             for suite, found in counts.items()]
     yield table(heads, [*rows, ["all", "", *total.values()]])
@@ -498,8 +498,8 @@ def tables(all_judged, versions):
         rows = []
         for kind in classes:
             found = [it.test.suite for it in all_judged if it.kind == kind and it.test.good == good]
-            which = (f"{suite}: {count}" for suite, count in collections.Counter(found).items())
-            rows += [[kind, len(found), ", ".join(which)]] if found else []
+            which = (f"{it.replace(', ', '/')} {n}" for it, n in collections.Counter(found).items())
+            rows += [[kind, len(found), "; ".join(which)]] if found else []
         yield table(["Class", "Chains", "Which"], rows)
 
 
