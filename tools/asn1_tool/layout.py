@@ -1,0 +1,217 @@
+"""Rust source in the layout of `rt fmt`."""
+
+from __future__ import annotations
+
+import dataclasses
+import re
+
+# The most columns of a line, of the members of a call or a tuple, and of the fields of a literal.
+LINE, MEMBERS, LITERAL = 100, 60, 18
+
+
+@dataclasses.dataclass(frozen=True)
+class Tuple:
+    members: tuple[Node, ...]
+
+
+@dataclasses.dataclass(frozen=True)
+class Call:
+    """A call, or a tuple struct."""
+
+    head: str
+    members: tuple[Node, ...]
+
+
+@dataclasses.dataclass(frozen=True)
+class Literal:
+    """A struct literal. A field whose value is its own name stands as the name."""
+
+    head: str
+    fields: tuple[tuple[str, Node], ...]
+
+
+@dataclasses.dataclass(frozen=True)
+class Lent:
+    """A reference to a value."""
+
+    value: Node
+
+
+@dataclasses.dataclass(frozen=True)
+class Generic:
+    """A type with its parameters."""
+
+    head: str
+    members: tuple[str, ...]
+
+
+Node = str | Tuple | Call | Literal | Lent | Generic
+
+
+def field_text(name, value):
+    return name if value == name else f"{name}: {flat(value)}"
+
+
+def flat(node):
+    """The source on one line."""
+    match node:
+        case Tuple(members):
+            return f"({members_text(members)})"
+        case Call(head, members):
+            return f"{head}({members_text(members)})"
+        case Generic(head, members):
+            return f"{head}<{members_text(members)}>"
+        case Literal(head, fields):
+            return f"{head} {{ {', '.join(field_text(*field) for field in fields)} }}"
+        case Lent(value):
+            return f"&{flat(value)}"
+    return node
+
+
+def members_text(members):
+    return ", ".join(map(flat, members))
+
+
+def is_short(node):
+    """Whether a node may stand on one line that is long enough for it."""
+    match node:
+        case Tuple(members) | Call(_, members):
+            return len(members_text(members)) <= MEMBERS and all(map(is_short, members))
+        case Literal(_, fields):
+            inner = ", ".join(field_text(*field) for field in fields)
+            return len(inner) <= LITERAL and all(is_short(value) for _, value in fields)
+        case Lent(value):
+            return is_short(value)
+    return True
+
+
+def laid(node, indent, before=0, after=0):
+    """The source of a node that begins `before` columns behind `indent`, with `after` to follow."""
+    text = flat(node)
+    if is_short(node) and indent + before + len(text) + after <= LINE:
+        return text
+    inner, pad, end = indent + 4, " " * (indent + 4), "\n" + " " * indent
+    match node:
+        case Call(head, [Literal() as only]):
+            return f"{head}({laid(only, indent, before + len(head) + 1, after + 1)})"
+        case Tuple(members) | Call(_, members) | Generic(_, members):
+            head = "" if isinstance(node, Tuple) else node.head
+            opened, closed = "<>" if isinstance(node, Generic) else "()"
+            rows = "".join(f"\n{pad}{laid(it, inner, 0, 1)}," for it in members)
+            return f"{head}{opened}{rows}{end}{closed}"
+        case Literal(head, fields):
+            rows = []
+            for name, value in fields:
+                start = "" if value == name else f"{name}: "
+                rows.append(f"\n{pad}{start}{laid(value, inner, len(start), 1)},")
+            return f"{head} {{{''.join(rows)}{end}}}"
+        case Lent(value):
+            return "&" + laid(value, indent, before + 1, after)
+    return text
+
+
+def nested(members, last="()"):
+    """The nested pairs of a row."""
+    found = last
+    for member in reversed(members):
+        found = Tuple((member, found))
+    return found
+
+
+def alias(name, node):
+    """A type of another name."""
+    start = f"type {name} = "
+    return f"{start}{laid(node, 0, len(start), 1)};"
+
+
+# Imports.
+
+
+def order(name):
+    """The order of names: a number by its value, and a list after names."""
+    return [
+        (1, int(part), "") if part.isdigit() else (0, 0, part.replace("{", "\x7f"))
+        for part in re.split(r"(\d+)", name) if part
+    ]
+
+
+def imports(paths):
+    """The `use` lines of some paths, those of one module together."""
+    by_module = {}
+    for path in set(paths):
+        module, _, name = path.rpartition("::")
+        by_module.setdefault(module, []).append(name)
+    lines = {}
+    for module, found in by_module.items():
+        found.sort(key=order)
+        key = [order(part) for part in module.split("::")]
+        if len(found) == 1:
+            lines[f"use {module}::{found[0]};"] = [*key, order(found[0])]
+        else:
+            lines[use_list(module, found)] = [*key, order("{")]
+    return "\n".join(sorted(lines, key=lines.get))
+
+
+def use_list(module, found):
+    text = f"use {module}::{{{', '.join(found)}}};"
+    if len(text) < LINE - 1:
+        return text
+    return f"use {module}::{{\n{filled(found, 4, ',', LINE - 1)}\n}};"
+
+
+def filled(items, indent, end=",", width=LINE):
+    """Items with commas, as many on a line as there is room for."""
+    lines, pad = [""], " " * indent
+    for number, item in enumerate(items):
+        comma = "," if number + 1 < len(items) else end
+        if lines[-1] and indent + len(lines[-1]) + len(item) + len(comma) + 1 > width:
+            lines.append("")
+        lines[-1] += (" " if lines[-1] else "") + item + comma
+    return "\n".join(pad + line for line in lines)
+
+
+# Ghost terms.
+
+
+def pairs(parts, indent):
+    """The nested pairs of some terms, each on its line."""
+    pad, inner = " " * indent, " " * (indent + 2)
+    first, *rest = parts
+    row = f"({first}, tt)"
+    if not rest and indent + len(row) < LINE:
+        return row
+    following = pairs(rest, indent + 2) if rest else "tt"
+    if indent + 2 + len(first) >= LINE:
+        head, _, last = first.rpartition(" ")
+        first = f"{head}\n{inner}    {last}"
+    return f"(\n{inner}{first},\n{inner}{following},\n{pad})"
+
+
+def list_term(items, indent, before, after):
+    """A list of terms, cut into lines."""
+    words, lines = [*items, "[]"], [""]
+    room = LINE - before - after
+    for number, word in enumerate(words):
+        piece = word if number == 0 else f" ∷ {word}"
+        if len(lines[-1]) + len(piece) > room:
+            lines.append(f"∷ {word}")
+            room = LINE - indent - after
+        else:
+            lines[-1] += piece
+    return f"\n{' ' * indent}".join(lines)
+
+
+# Comments.
+
+
+def comment(definition, notes=()):
+    """The doc comment of a type: notes, and the ASN.1 that declares it."""
+    first, *rest = definition.text.splitlines()
+    rest = [line.rstrip() for line in rest if line.strip()]
+    inner = [line for line in rest if line.strip() != "}"]
+    cut = min((len(line) - len(line.lstrip()) for line in inner), default=0)
+    lines = [first.rstrip()]
+    lines += ["}" if line.strip() == "}" else "    " + line[cut:] for line in rest]
+    above = [f"/// {note}" for note in notes] + (["///"] if notes else [])
+    text = ["/// ```text", *(f"/// {line}" for line in lines), "/// ```"]
+    return "\n".join(above + text)

@@ -1,0 +1,155 @@
+"""The types of the library, and the tables by which modules import types."""
+
+import dataclasses
+import functools
+import pathlib
+import re
+
+from .parser import parsed
+from .syntax import Refused
+
+HERE = pathlib.Path(__file__).resolve().parent
+
+
+@dataclasses.dataclass(frozen=True)
+class RustType:
+    """A Rust type that stands for an ASN.1 type, without a tag around it."""
+
+    text: str
+    # The paths that a file imports to name it.
+    uses: frozenset[str] = frozenset()
+    # The tags with which an encoding may begin, or None for any: "SEQUENCE", or the number of [N].
+    first: frozenset | None = frozenset()
+    # A tag around it is explicit: a CHOICE, or any type (X.680 31.2.7).
+    is_choice: bool = False
+    is_copy: bool = False
+    # A value is written as it is read: no profile re-encodes it.
+    is_same: bool = True
+    # Of an INTEGER, the bits of a machine integer, negative where it has a sign, or 0 for any size.
+    bits: int | None = None
+    # The value that it has as its default, as a module names it.
+    default: str | None = None
+
+
+def plain(text, use, tag, **marks):
+    return RustType(text, frozenset([use] if use else []), frozenset([tag]), **marks)
+
+
+UNIT = plain("()", None, "NULL", is_copy=True)
+INT = plain("Int", "der_types::Int", "INTEGER", bits=0)
+UINT = plain("Uint", "der_types::Uint", "INTEGER")
+BOOL = plain("bool", None, "BOOLEAN", is_copy=True)
+ANY = RustType("Any", frozenset(["der_types::Any"]), None, is_choice=True)
+OBJECT_IDENTIFIER = plain(
+    "ObjectIdentifier<39>", "der_core::oid::ObjectIdentifier", "OBJECT IDENTIFIER", is_copy=True
+)
+PLAIN = {
+    "BOOLEAN": BOOL,
+    "NULL": UNIT,
+    "INTEGER": INT,
+    "OCTET STRING": plain("OctetString", "der_types::OctetString", "OCTET STRING"),
+    "BIT STRING": plain("BitString", "der_types::BitString", "BIT STRING"),
+    "OBJECT IDENTIFIER": OBJECT_IDENTIFIER,
+    "UTF8String": plain("String", None, "UTF8String"),
+    "PrintableString": plain("PrintableString", "der_types::PrintableString", "PrintableString"),
+    "IA5String": plain("Ia5String", "der_types::Ia5String", "IA5String"),
+    "TeletexString": plain("TeletexString", "der_types::TeletexString", "TeletexString"),
+    "BMPString": plain("BmpString", "der_types::BmpString", "BMPString"),
+    "GeneralString": plain("GeneralString", "der_types_more::GeneralString", "GeneralString"),
+    "UTCTime": plain("UtcTime", "der_types::UtcTime", "UTCTime", is_copy=True),
+    "GeneralizedTime": plain(
+        "GeneralizedTime", "der_types::GeneralizedTime", "GeneralizedTime", is_copy=True
+    ),
+}
+# What a user may name in place of a type: --read NAME=Any.
+READ = {
+    "Any": ANY, "Int": INT, "OctetString": PLAIN["OCTET STRING"],
+    "SequenceOwned": plain("SequenceOwned", "der_types_more::SequenceOwned", "SEQUENCE"),
+}
+
+
+def machine(bits):
+    """A machine integer of so many bits, negative where it has a sign."""
+    text = f"u{bits}" if bits > 0 else f"i{-bits}"
+    return plain(text, None, "INTEGER", is_copy=True, bits=bits)
+
+
+def has(bits, number):
+    """Whether a machine integer of so many bits has a number."""
+    return 0 <= number < 2**bits if bits > 0 else -(2 ** (-bits - 1)) <= number < 2 ** (-bits - 1)
+
+
+@dataclasses.dataclass
+class Table:
+    """The types and object identifiers that modules import, by module."""
+
+    types: dict[tuple[str, str], RustType] = dataclasses.field(default_factory=dict)
+    identifiers: dict[tuple[str, str], list[int]] = dataclasses.field(default_factory=dict)
+
+    def read(self, path, module=None):
+        """Adds the rows of a file, all as of `module` where it is given.
+
+        A row is the name of a type, its Rust type, the path of what it imports, the tags with which
+        it begins, and its marks; or the name of an object identifier, `OID` and its arcs. A line
+        [MODULE ..] says of which modules the rows after it are.
+        """
+        modules = []
+        for number, line in enumerate(pathlib.Path(path).read_text().splitlines(), 1):
+            cells = line.split("#")[0].split()
+            if not cells:
+                continue
+            if cells[0].startswith("["):
+                modules = [module] if module else " ".join(cells)[1:-1].split()
+            elif len(cells) == 3 and cells[1] == "OID":
+                for of in modules:
+                    self.identifiers[of, cells[0]] = [int(arc) for arc in cells[2].split(".")]
+            elif len(cells) >= 4:
+                for of in modules:
+                    self.types[of, cells[0]] = row(*cells[1:])
+            else:
+                raise Refused(number, f"{path}: a row has a name, a type, a path and tags")
+        return self
+
+
+def row(text, path, first, *marks):
+    """A type of a table. `~` stands for a space."""
+    tags = None if first == "ANY" else frozenset(
+        int(tag[1:-1]) if re.fullmatch(r"\[\d+\]", tag) else tag.replace("~", " ")
+        for tag in first.split("+")
+    )
+    found = set() if path == "-" else set(re.findall(r"[A-Z]\w*", text)) - {"Vec"}
+    return RustType(
+        text.replace("~", " "), frozenset(f"{path}::{it}" for it in found), tags,
+        is_choice="choice" in marks, is_copy="copy" in marks, is_same="respelled" not in marks,
+        default=next((mark[8:] for mark in marks if mark.startswith("default=")), None),
+    )
+
+
+def cells(name, of):
+    """The row of a type."""
+    tags = "ANY" if of.first is None else "+".join(sorted(map(tag_text, of.first)))
+    marks = [
+        mark for mark, holds in (
+            ("choice", of.is_choice), ("copy", of.is_copy), ("respelled", not of.is_same),
+            (f"default={of.default}", of.default),
+        ) if holds
+    ]
+    path = next(iter(of.uses), "").rpartition("::")[0] or "-"
+    return " ".join([name, of.text.replace(" ", "~"), path, tags.replace(" ", "~"), *marks])
+
+
+def tag_text(tag):
+    """A tag as messages and tables write it."""
+    return f"[{tag}]" if isinstance(tag, int) else tag
+
+
+def library():
+    """The table of the library."""
+    return Table().read(HERE / "library.txt")
+
+
+@functools.cache
+def parameterized():
+    """The modules whose types with parameters can be imported."""
+    name = "PKIX1Explicit-2009"
+    return {name: parsed((HERE / f"{name}.asn1").read_text())}

@@ -1,0 +1,568 @@
+"""Finds what each type of a module is in Rust, or why it can't be written."""
+
+import dataclasses
+
+from . import library, names
+from .library import RustType, tag_text
+from .syntax import (
+    ClassField, ComponentsOf, Constraint, Definition, Field, ListOf, Named, Numbered, Open, Plain,
+    Refused, Structure, Tag, Tagged, Type,
+)
+
+# A choice of more alternatives than this has the others in a choice of their own: the library has
+# `OneOf2` to `OneOf9`.
+ALTERNATIVES = 9
+# A SET OF whose members differ.
+SET_TYPE = "der_core::StrictSetOf"
+# The most members of an array or a list of bounded length, which are kept in place.
+IN_PLACE = 32
+
+
+@dataclasses.dataclass(frozen=True)
+class Form:
+    """What stands for a field, an alternative or a member: a type, and the tag around it."""
+
+    rust: RustType
+    mode: str | None
+    number: int | None
+    first: frozenset | None
+
+    def text(self):
+        if self.mode:
+            return f"{self.mode.capitalize()}<{self.rust.text}, {self.number}>"
+        return self.rust.text
+
+    def uses(self):
+        more = {f"der_core::{self.mode.capitalize()}"} if self.mode else set()
+        return self.rust.uses | more
+
+
+def overlap(one, other):
+    """The first tags that two types share: None for any."""
+    if one is None or other is None:
+        return None
+    return one & other
+
+
+def shared(tags):
+    return f" ({', '.join(sorted(map(tag_text, tags)))})" if tags else ""
+
+
+class Resolved:
+    """The types of a module, each with a name, and what they are in Rust."""
+
+    def __init__(self, module, report, table, read=None, loose=False, equal_members=False):
+        self.module, self.report, self.table, self.loose = module, report, table, loose
+        self.set_type = "der_types_more::AscendingSetOf" if equal_members else SET_TYPE
+        self.read, self.definitions, self.instances, self.busy = read or {}, {}, {}, []
+        self.components_of, self.found = {}, {}
+        for name, definition in module.types.items():
+            if not definition.parameters and name not in self.definitions:
+                self.define(name, definition)
+        self.check_names()
+        self.cyclic = self.check_cycles()
+
+    # The tree: each structure and each type with named numbers gets a name, and parameters what
+    # stands for them.
+
+    def define(self, name, definition, values=None):
+        kept = dataclasses.replace(definition, name=name, parameters=[])
+        self.definitions[name] = kept
+        try:
+            kept.type = self.placed(definition.type, values or {}, name, True)
+        except Refused as refused:
+            self.report.error(refused.line, refused.reason)
+            kept.type = Open(definition.line)
+        return kept
+
+    def placed(self, of, values, owner, is_top=False):
+        """A copy of a type, in which all that needs a name has one."""
+        limits = [bounded(it, values) for it in of.constraints]
+        match of:
+            case Named():
+                return self.named(of, values, owner, is_top, limits)
+            case ClassField():
+                return self.class_field(of, owner, limits)
+            case ListOf():
+                member = self.placed(of.member, values, owner + "-Item")
+                return ListOf(of.line, of.word, member, constraints=limits)
+            case Tagged():
+                inner = self.placed(of.inner, values, owner if not is_top else owner + "-Content")
+                return Tagged(of.line, of.tag, inner, constraints=limits)
+            case Structure():
+                fields = self.fields(of, values, owner)
+                found = Structure(of.line, of.word, fields, of.extensible, constraints=limits)
+                if of.word == "CHOICE" and len(fields) > ALTERNATIVES:
+                    self.cut(found, owner)
+            case _:
+                found = dataclasses.replace(of, constraints=limits)
+        if is_top or not isinstance(found, (Structure, Numbered)):
+            return found
+        return self.new_name(found, owner)
+
+    def new_name(self, of, name):
+        """A reference to a type that has got a name."""
+        while name in self.definitions or name in self.module.types:
+            name += "-Part"
+        word = of.word
+        self.report.note(of.line, f"the {word} without a name becomes {names.camel(name)}")
+        text = f"{name} ::= {word} -- without a name"
+        self.definitions[name] = Definition(name, of, of.line, text)
+        return Named(of.line, name)
+
+    def named(self, of, values, owner, is_top, limits):
+        if of.name in values:
+            if not isinstance(values[of.name], Type):
+                raise Refused(of.line, f"the parameter {of.name} isn't a type")
+            return limited(values[of.name], limits)
+        definition = self.module.types.get(of.name) or self.parameterized(of.name)
+        if not definition or not definition.parameters:
+            return Named(of.line, of.name, constraints=limits)
+        if len(of.arguments) != len(definition.parameters):
+            count, given = len(definition.parameters), len(of.arguments)
+            raise Refused(of.line, f"{of.name} has {count} parameters, and {given} here")
+        own = {}
+        for parameter, argument in zip(definition.parameters, of.arguments):
+            if isinstance(argument, Named) and argument.name in values:
+                argument = values[argument.name]
+            elif isinstance(argument, str):
+                argument = values.get(argument, argument)
+            elif isinstance(argument, Type):
+                argument = self.argument(argument, values, owner, parameter)
+            own[parameter] = argument
+        if is_top:
+            return limited(self.placed(definition.type, own, owner, True), limits)
+        key = of.name, repr(sorted((name, repr(it)) for name, it in own.items()))
+        if key not in self.instances:
+            parts = [it.name for it in own.values() if isinstance(it, Named)]
+            parts += [str(it) for it in own.values() if isinstance(it, (int, str))]
+            name = "-".join([of.name, *parts])
+            while name in self.definitions:
+                name += "-Part"
+            self.instances[key] = name
+            self.define(name, definition, own)
+        return Named(of.line, self.instances[key], constraints=limits)
+
+    def parameterized(self, name):
+        """A type with parameters that the module imports, as RFC 5912 declares it."""
+        module = self.module.imports.get(name, (None,))[0]
+        found = library.parameterized().get(module)
+        if found is None or name not in found.types:
+            return None
+        for needed, place in found.imports.items():
+            self.module.imports.setdefault(needed, place)
+        return found.types[name]
+
+    def argument(self, of, values, owner, parameter):
+        """What stands for a parameter: a type, or nothing for a class or a set of objects."""
+        if isinstance(of, Named) and not of.arguments:
+            is_type = of.name in self.module.types or of.name in self.read
+            is_type = is_type or self.imported(of.name) is not None
+            limits = [bounded(it, values) for it in of.constraints]
+            return Named(of.line, of.name, constraints=limits) if is_type else None
+        return self.placed(of, values, f"{owner}-{parameter}")
+
+    def class_field(self, of, owner, limits):
+        if of.field[1].isupper():
+            return Open(of.line, constraints=limits)
+        found = self.module.classes.get(of.cls, {}).get(of.field)
+        if found is not None:
+            return limited(self.placed(found, {}, owner), limits)
+        if of.field == "&id":
+            return Plain(of.line, "OBJECT IDENTIFIER", constraints=limits)
+        raise Refused(of.line, f"the type of {of.cls}.{of.field} isn't known: declare the class")
+
+    def fields(self, of, values, owner):
+        """The fields of a structure, those of COMPONENTS OF among them, with automatic tags."""
+        tags = [isinstance(it, Field) and isinstance(it.type, Tagged) for it in of.fields]
+        is_automatic = self.module.tags == "AUTOMATIC" and not any(tags)
+        fields = []
+        for field in of.fields:
+            if isinstance(field, ComponentsOf):
+                fields += self.components(field)
+                continue
+            name = f"{owner}-{field.name[0].upper()}{field.name[1:]}"
+            fields.append(dataclasses.replace(field, type=self.placed(field.type, values, name)))
+        roots = [field for field in fields if not field.is_addition]
+        self.components_of[owner] = [dataclasses.replace(field) for field in roots]
+        if is_automatic:
+            additions = [field for field in fields if field.is_addition]
+            for number, field in enumerate(roots + additions):
+                tag = Tag("CONTEXT", number, None, field.line)
+                field.type = Tagged(field.line, tag, field.type)
+        return fields
+
+    def components(self, of):
+        """The fields of a SEQUENCE of the module, without additions and automatic tags."""
+        name = of.type.name if isinstance(of.type, Named) else None
+        definition = self.module.types.get(name)
+        is_record = definition and not definition.parameters
+        if not is_record or getattr(definition.type, "word", "") != "SEQUENCE":
+            raise Refused(of.line, "COMPONENTS OF takes a SEQUENCE of this module")
+        if name not in self.definitions:
+            self.define(name, definition)
+        if name not in self.components_of:
+            raise Refused(of.line, f"{name} contains its own components")
+        return [dataclasses.replace(field) for field in self.components_of[name]]
+
+    def cut(self, choice, owner):
+        """Of a long choice the last alternatives become a choice of their own."""
+        first, rest = choice.fields[: ALTERNATIVES - 1], choice.fields[ALTERNATIVES - 1 :]
+        more = Structure(rest[0].line, "CHOICE", rest, False)
+        if len(rest) > ALTERNATIVES:
+            self.cut(more, owner + "-More")
+        reference = self.new_name(more, owner + "-More")
+        choice.fields = [*first, Field("more", reference, rest[0].line)]
+
+    # What is declared.
+
+    def check_names(self):
+        by_type = {}
+        for name, definition in self.definitions.items():
+            by_type.setdefault(names.camel(name), []).append(name)
+        for rust, found in by_type.items():
+            if len(found) > 1:
+                line = self.definitions[found[1]].line
+                self.report.error(line, f"{' and '.join(found)} would both become {rust}")
+
+    def references(self, of):
+        """The types of the module that a type names."""
+        found = set()
+        match of:
+            case Named():
+                name = self.read.get(of.name, of.name)
+                found |= {name} & set(self.definitions)
+            case ListOf():
+                found |= self.references(of.member)
+            case Tagged():
+                found |= self.references(of.inner)
+            case Structure():
+                for field in of.fields:
+                    found |= self.references(field.type)
+        return found
+
+    def check_cycles(self):
+        """The types that contain themselves, each cycle reported once."""
+        graph = {name: self.references(it.type) for name, it in self.definitions.items()}
+        state, cyclic = {}, set()
+
+        def walk(name, path):
+            if name in state:
+                if state[name] == "open":
+                    cycle = [*path[path.index(name) :], name]
+                    self.report.error(
+                        self.definitions[name].line,
+                        f"a type can't contain itself: {' > '.join(cycle)}; "
+                        "--read one of them as Any",
+                    )
+                    cyclic.update(cycle)
+                return
+            state[name] = "open"
+            for other in sorted(graph[name]):
+                walk(other, [*path, name])
+            state[name] = "done"
+
+        for name in graph:
+            walk(name, [])
+        return cyclic
+
+    def closure(self, names_of):
+        """Types, and all that they name."""
+        todo, found = list(names_of), set()
+        while todo:
+            name = todo.pop()
+            if name not in found:
+                found.add(name)
+                todo += self.references(self.definitions[name].type)
+        return found
+
+    def kind(self, name):
+        """In which way a type is written."""
+        of = self.definitions[name].type
+        if isinstance(of, Structure):
+            if of.word == "CHOICE":
+                return "choice" if len(of.fields) != 1 else "alias"
+            return "record"
+        if isinstance(of, Numbered) and self.is_numbered(of):
+            return "bits" if of.word == "BIT STRING" else "numbers"
+        return "tagged" if self.is_tagged(name) else "alias"
+
+    def is_numbered(self, of):
+        """Whether named numbers become a type: numbers of eight bits, or bits up to 63."""
+        least, most = (0, 64) if of.word == "BIT STRING" else (0, 256)
+        return bool(of.items) and all(least <= it.number < most for it in of.items)
+
+    def items(self, of):
+        """The named numbers that a constraint, if there is one, lets stand."""
+        found = of.items
+        for limit in of.constraints:
+            if limit.kind != "values" or limit.extensible:
+                continue
+            named = {it.name: it.number for it in of.items}
+            ends = [[named.get(end, end) for end in one] for one in limit.ranges]
+            ends = [[self.end(end, limit.line) for end in one] for one in ends]
+            found = [it for it in found if any(
+                (low is None or low <= it.number) and (high is None or it.number <= high)
+                for low, high in ends)]
+        return found
+
+    def is_tagged(self, name, seen=()):
+        """Whether a name is that of a tag around a type."""
+        of = self.definitions[name].type
+        if isinstance(of, Named) and of.name in self.definitions and of.name not in seen:
+            return self.is_tagged(of.name, (*seen, name))
+        return isinstance(of, Tagged)
+
+    # Types in Rust.
+
+    def peeled(self, of):
+        """The tags around a type, those of the names that it has among them, and what is inside."""
+        tags, seen = [], set()
+        while True:
+            outer = of
+            if isinstance(of, Tagged):
+                tags.append(of.tag)
+                of = of.inner
+            elif (
+                isinstance(of, Named) and of.name not in self.read and of.name not in seen
+                and of.name in self.definitions and self.is_tagged(of.name)
+            ):
+                seen.add(of.name)
+                of = self.definitions[of.name].type
+            else:
+                return tags, of
+            for limit in outer.constraints:
+                self.unchecked(limit, "value")
+
+    def mode(self, tag):
+        return tag.mode or ("EXPLICIT" if self.module.tags == "EXPLICIT" else "IMPLICIT")
+
+    def form(self, of):
+        """What stands for a field, an alternative or a member."""
+        tags, inner = self.peeled(of)
+        rust = self.rust(inner)
+        if not tags:
+            return Form(rust, None, None, rust.first)
+        tag = tags.pop()
+        while tags:
+            # An implicit tag stands in place of the one inside.
+            outer = tags.pop()
+            if self.mode(outer) == "EXPLICIT":
+                raise Refused(outer.line, "an explicit tag around a tag can't be written")
+            tag = dataclasses.replace(tag, cls=outer.cls, number=outer.number)
+        if tag.cls != "CONTEXT":
+            raise Refused(tag.line, f"a tag [{tag.cls} {tag.number}] can't be written, only [N]")
+        mode = self.mode(tag)
+        if rust.is_choice:
+            if tag.mode == "IMPLICIT":
+                raise Refused(
+                    tag.line,
+                    "an implicit tag around a CHOICE or ANY isn't ASN.1 (X.680 31.2.9): "
+                    "write EXPLICIT",
+                )
+            mode = "EXPLICIT"
+        return Form(rust, mode.lower(), tag.number, frozenset([tag.number]))
+
+    def rust(self, of):
+        match of:
+            case Named():
+                found = self.of_name(of.name, of.line)
+            case Plain(word="INTEGER"):
+                return self.integer(of)
+            case Plain():
+                if of.word not in library.PLAIN:
+                    raise Refused(of.line, f"{of.word} can't be written: the library lacks it")
+                found = library.PLAIN[of.word]
+            case Open():
+                found = library.ANY
+            case ListOf():
+                return self.list_of(of)
+            case Numbered(word="BIT STRING"):
+                self.report.note(of.line, "the bits past the 64th have no names: any bits are read")
+                found = library.PLAIN["BIT STRING"]
+            case Numbered(word="INTEGER"):
+                self.report.note(of.line, "a number isn't from 0 to 255: any INTEGER is read")
+                found = library.INT
+            case Numbered():
+                raise Refused(of.line, "an ENUMERATED with a number that isn't from 0 to 255 "
+                                       "can't be written")
+            case Structure(word="CHOICE"):
+                return self.lone_alternative(of)
+            case _:
+                raise Refused(of.line, f"a {of.word} without a name can't be written")
+        for limit in of.constraints:
+            self.unchecked(limit, found.text)
+        return found
+
+    def lone_alternative(self, of):
+        form = self.form(of.fields[0].type)
+        if form.mode:
+            raise Refused(of.line, "a CHOICE of one alternative with a tag can't be written")
+        return dataclasses.replace(form.rust, is_choice=True)
+
+    def of_name(self, name, line):
+        read = self.read.get(name, name)
+        if read in library.READ and read != name:
+            return library.READ[read]
+        if read in self.definitions:
+            return self.declared(read, line)
+        found = self.imported(read)
+        if found is None and read != name:
+            raise Refused(line, f"--read {name}={read}: {read} isn't known")
+        if found is None and name in self.module.imports:
+            module = self.module.imports[name][0]
+            raise Refused(line, f"{name} of {module} isn't in a table: give --with, or "
+                                f"--read {name}=TYPE")
+        if found is None:
+            raise Refused(line, f"the type {name} isn't declared")
+        return found
+
+    def imported(self, name):
+        module = self.module.imports.get(name, (None,))[0]
+        found = self.table.types.get((module, name))
+        if found is None and module is None and name in self.read.values():
+            rows = [it for (_, row), it in self.table.types.items() if row == name]
+            found = rows[0] if rows else None
+        return found
+
+    def declared(self, name, line):
+        """A type of the module."""
+        if name not in self.found:
+            if name in self.busy:
+                raise Refused(line, f"{name} contains itself")
+            self.busy.append(name)
+            try:
+                self.found[name] = self.made(name)
+            finally:
+                self.busy.pop()
+        return self.found[name]
+
+    def made(self, name):
+        definition = self.definitions[name]
+        of, text, kind = definition.type, names.camel(name), self.kind(name)
+        use = frozenset([f"crate::{names.module(name)}::{text}"])
+        if kind in ("record", "choice", "numbers", "bits"):
+            for limit in of.constraints:
+                if kind != "numbers" or limit.kind != "values":
+                    self.unchecked(limit, text)
+        if kind == "alias":
+            found = self.rust(of)
+            if found.text != "()":
+                use = frozenset([f"crate::aliases::{text}"])
+                found = dataclasses.replace(found, text=text, uses=use)
+            return found
+        if kind == "tagged":
+            raise Refused(definition.line, f"the tag around {name} can't be written here")
+        if kind in ("numbers", "bits"):
+            word = "BIT STRING" if kind == "bits" else of.word
+            return RustType(text, use, frozenset([word]), is_copy=True)
+        if of.word == "SET":
+            raise Refused(of.line, "a SET of fields can't be written: "
+                                   "the library has no such record")
+        forms = [self.form(field.type) for field in of.fields]
+        first = frozenset(["SEQUENCE"])
+        if kind == "choice":
+            tags = [form.first for form in forms]
+            first = None if None in tags else frozenset().union(*tags)
+        return RustType(
+            text, use, first, is_choice=kind == "choice",
+            is_same=all(form.rust.is_same for form in forms),
+        )
+
+    # Constraints.
+
+    def unchecked(self, limit, read):
+        """A constraint that what is read doesn't have to meet."""
+        if limit.kind == "contents" or limit.extensible:
+            return
+        if self.loose:
+            self.report.note(limit.line, f"{limit.text} isn't checked: any {read} is read")
+        else:
+            self.report.error(
+                limit.line, f"{limit.text} can't be checked; with --loose any {read} is read"
+            )
+
+    def end(self, bound, line):
+        """The end of a range; None where it is open."""
+        if bound in ("MIN", "MAX"):
+            return None
+        if isinstance(bound, int):
+            return bound
+        if bound not in self.module.numbers:
+            raise Refused(line, f"the number `{bound}` isn't known")
+        return self.module.numbers[bound]
+
+    def hull(self, limit):
+        """The least and the greatest of some ranges, and whether all between them are meant."""
+        ends = [tuple(self.end(it, limit.line) for it in one) for one in limit.ranges]
+        low = None if any(one[0] is None for one in ends) else min(one[0] for one in ends)
+        high = None if any(one[1] is None for one in ends) else max(one[1] for one in ends)
+        return low, high, len(ends) == 1
+
+    def integer(self, of):
+        found = library.INT
+        for limit in of.constraints:
+            if limit.extensible or limit.kind == "contents":
+                continue
+            if limit.kind != "values" or len(of.constraints) > 1:
+                self.unchecked(limit, found.text)
+                continue
+            low, high, is_whole = self.hull(limit)
+            found, is_exact = number_type(low, high)
+            if not is_exact or not is_whole:
+                self.unchecked(limit, found.text)
+        return found
+
+    def list_of(self, of):
+        member = self.form(of.member)
+        is_set = of.word == "SET OF"
+        text, uses = f"Vec<{member.text()}>", set(member.uses())
+        if is_set:
+            text = f"{self.set_type.rpartition('::')[2]}<{member.text()}>"
+            uses.add(self.set_type)
+        for limit in of.constraints:
+            low, high, is_whole = self.hull(limit) if limit.kind == "size" else (1, 0, False)
+            if limit.extensible or (low in (0, None) and high is None):
+                continue
+            if not is_set and is_whole and len(of.constraints) == 1 and high is not None:
+                if low == high and high <= IN_PLACE:
+                    text = f"[{member.text()}; {high}]"
+                    continue
+                if low == 0 and high <= IN_PLACE:
+                    text = f"SequenceOf<{member.text()}, {high}>"
+                    uses.add("der_types::SequenceOf")
+                    continue
+            self.unchecked(limit, text)
+        return RustType(
+            text, frozenset(uses), frozenset(["SET" if is_set else "SEQUENCE"]),
+            is_same=member.rust.is_same,
+        )
+
+
+def limited(of, limits):
+    """A type with more constraints."""
+    return dataclasses.replace(of, constraints=[*of.constraints, *limits])
+
+
+def bounded(limit, values):
+    """A constraint, with what stands for parameters in it."""
+    ranges = tuple(
+        tuple(values.get(end, end) if isinstance(end, str) else end for end in one)
+        for one in limit.ranges
+    )
+    return dataclasses.replace(limit, ranges=ranges)
+
+
+def number_type(low, high):
+    """The least type that has a range of numbers, and whether it has no others."""
+    if high is None:
+        if low is None or low < 0:
+            return library.INT, low is None
+        return library.UINT, low == 0
+    if low is None:
+        return library.INT, False
+    for bits in (8, -8, 16, -16, 32, -32, 64, -64, 128, -128):
+        if library.has(bits, low) and library.has(bits, high):
+            is_exact = not library.has(bits, low - 1) and not library.has(bits, high + 1)
+            return library.machine(bits), is_exact
+    return (library.UINT if low >= 0 else library.INT), False

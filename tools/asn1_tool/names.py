@@ -1,0 +1,56 @@
+"""Rust names of ASN.1 names."""
+
+import re
+
+KEYWORDS = set(
+    """as break const continue crate else enum extern false fn for if impl in let loop match mod
+    move mut pub ref return self static struct super trait true type unsafe use where while async
+    await dyn abstract become box do final macro override priv typeof unsized virtual yield try
+    ghost syntax prove union std core""".split()
+)
+# What the written files name otherwise: a type of such a name ends with `Type`.
+TAKEN = set(
+    """Any AsEnumerated AsNumbered AsRecord BitString Box Cases CasesRef Choice Clone Copy Debug
+    Decode DecodeFields DecodeRow DefaultContent DerOrd Described Drop Element Encode EncodeFields
+    EncodeRef Eq Err Error Explicit FieldRow Fields FieldsOrd FieldsView FirstTag Flag FlagSet Flags
+    GeneralizedTime Global Implicit ImplicitRef InRange InRangeValue Int Length Member NamedBits
+    None Null Numbered ObjectIdentifier OctetString Ok Option Ordered Ordering PartialEq Reader
+    Rest RestRef RestRow RestRowRef Result Row RowUser Rows Self SequenceOf Shaped ShapedValue Some
+    StrictSetOf String Tag Uint UtcTime Vec WithDefault Writer""".split()
+)
+# Modules that the crate has besides those of its types.
+MODULES = {"aliases", "identifiers", "defaults", "lib", "main"}
+
+
+def words(name):
+    """The words of a name: OCSPRequest has OCSP and Request, and SHA2Family SHA2 and Family."""
+    found = []
+    for part in re.split(r"[-_]", name):
+        found += re.findall(
+            r"[A-Z]+(?=v[0-9])|v[0-9]+$|[A-Z]+(?=[A-Z][a-z])|[A-Z]?[a-z]+[0-9]*|[A-Z]+[0-9]*|[0-9]+",
+            part,
+        )
+    return found
+
+
+def variant(name):
+    """The name of a variant: `keyHash` is `KeyHash`."""
+    return "".join(word[0].upper() + word[1:].lower() for word in words(name))
+
+
+def camel(name):
+    """The name of a type."""
+    found = variant(name)
+    return found + "Type" if found in TAKEN else found
+
+
+def snake(name):
+    """The name of a field or a function."""
+    found = "_".join(word.lower() for word in words(name))
+    return found + "_" if found in KEYWORDS else found
+
+
+def module(name):
+    """The module of a type."""
+    found = "_".join(word.lower() for word in words(name))
+    return found + "_type" if found in KEYWORDS | MODULES else found

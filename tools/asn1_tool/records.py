@@ -1,0 +1,253 @@
+"""The source of a SEQUENCE: a struct, its row of fields, and the impls that code it."""
+
+import dataclasses
+
+from . import layout, names
+from .layout import Call, Lent, Literal, Tuple
+from .module import overlap, shared
+from .syntax import Refused
+
+@dataclasses.dataclass(frozen=True)
+class Column:
+    """A field of a record, with what stands for it."""
+
+    label: str
+    form: object
+    optional: bool
+    # What codes the field where it has a default: the type, and the pattern that wraps a value.
+    default: object = None
+
+    @property
+    def inner(self):
+        return self.default.rust if self.default else self.form.rust
+
+    @property
+    def mode(self):
+        return self.form.mode
+
+    @property
+    def owned(self):
+        """The type of the field."""
+        text = self.form.rust.text
+        return f"Option<{text}>" if self.optional else text
+
+    @property
+    def tagged(self):
+        text = self.inner.text
+        return f"{self.mode.capitalize()}<{text}, {self.form.number}>" if self.mode else text
+
+    def row(self, by_hand):
+        """The type in the row."""
+        if self.default:
+            return f"WithDefault<{self.tagged}>"
+        found = f"Option<{self.tagged}>" if self.optional else self.tagged
+        return found if self.mode or not by_hand else f"Whole<{found}>"
+
+    @property
+    def word(self):
+        """The field in the notation of `read_row!` and `lend!`; None where they lack it."""
+        words = [self.mode, str(self.form.number)] if self.mode else []
+        if self.default and self.default.wrapper:
+            return None
+        if self.default or self.optional and self.mode:
+            words.append("default" if self.default else "optional")
+        return f"{self.label}: {' '.join(words)}" if words else self.label
+
+    def term(self, side, value):
+        """The ghost term of what is read (`plain`) or written for a field."""
+        of = self.form.rust.text
+        if self.mode == "implicit":
+            found = f"⟦<{of} as ShapedValue>⟧.value_{side}"
+        else:
+            found = f"⟦<{of} as Shaped>⟧.{side}"
+        if self.optional:
+            found = f"plain_option {found}"
+        return f"{found} {value}.{self.label}"
+
+    def lend(self, of):
+        """The expression that lends the field of a value."""
+        value, number = f"{of}.{self.label}", self.form.number
+        if self.default:
+            inner = self.default.wrapped(value)
+            if self.mode:
+                inner = Literal(f"{self.mode.capitalize()}::<_, {number}>", (("value", inner),))
+            return Literal("WithDefault", (("value", inner),))
+        if self.optional and self.mode:
+            return Call(f"{self.mode}_ref::<_, {number}>", (f"&{value}",))
+        if self.mode == "implicit":
+            return Literal(f"ImplicitRef::<_, {number}>", (("value", Lent(value)),))
+        lent = Call("EncodeRef", (f"&{value}",))
+        return Literal(f"Explicit::<_, {number}>", (("value", lent),)) if self.mode else lent
+
+    @property
+    def back(self):
+        """The field's value, of what the row has read."""
+        if self.optional and self.mode:
+            return f"{self.mode}_of({self.label})"
+        if not self.mode and not self.default:
+            return f"{self.label}.0"
+        value = self.label + ".value" * (bool(self.default) + bool(self.mode))
+        return self.default.unwrapped(value) if self.default else value
+
+    def uses(self):
+        """What names of the library the struct and its row need."""
+        found = set(self.form.rust.uses) | set(self.inner.uses)
+        found.add("der_core::ShapedValue" if self.mode == "implicit" else "der_core::Shaped")
+        if self.mode:
+            found.add(f"der_core::{self.mode.capitalize()}")
+        if self.default:
+            found.add("der_core::WithDefault")
+        return found
+
+
+class Record:
+    """The source of one SEQUENCE."""
+
+    def __init__(self, crate, name):
+        self.crate, self.name = crate, name
+        self.definition = crate.types.definitions[name]
+        self.rust = names.camel(name)
+        self.columns = [self.column(field) for field in self.definition.type.fields]
+        self.check()
+        self.is_same = all(it.form.rust.is_same for it in self.columns)
+        self.by_hand = any(it.word is None for it in self.columns)
+        self.uses = {
+            "der_core::DecodeFields", "der_core::Error", "der_core::Reader", "std::alloc::Global",
+            *(f"der_core::describing::{it}" for it in
+              ("AsRecord", "Described", "FieldRow", "RowUser", "Rows")),
+        }
+        self.uses.add("der_core::describing::FieldsView" if self.is_same else "der_core::Fields")
+        self.uses.update(*(it.uses() for it in self.columns))
+
+    def column(self, field):
+        form = self.crate.types.form(field.type)
+        if field.default is not None:
+            default, form = self.crate.default(field, form)
+            return Column(names.snake(field.name), form, False, default)
+        return Column(names.snake(field.name), form, field.optional)
+
+    def check(self):
+        """Refuses fields whose presence can't be told, and names that aren't told apart."""
+        fields, line = self.definition.type.fields, self.definition.line
+        if not fields:
+            raise Refused(line, "a SEQUENCE without fields can't be written")
+        labels = [it.label for it in self.columns]
+        if len(set(labels)) < len(labels):
+            raise Refused(line, f"two fields of {self.name} would have one name")
+        for at, (field, column) in enumerate(zip(fields, self.columns)):
+            for other, its in zip(fields[at + 1 :], self.columns[at + 1 :]):
+                if not self.may_miss(field):
+                    break
+                tags = overlap(column.form.first, its.form.first)
+                if tags is None or tags:
+                    raise Refused(
+                        field.line, f"{field.name} may be absent, and {other.name} may begin with "
+                                    f"the same tag{shared(tags)}: give one of them a tag",
+                    )
+                if not self.may_miss(other):
+                    break
+
+    def may_miss(self, field):
+        return field.optional or field.default is not None
+
+    # The parts of the file.
+
+    def source(self):
+        parts = [
+            self.struct(),
+            layout.alias("Row", layout.nested([it.row(self.by_hand) for it in self.columns])),
+            self.described(), self.view(), self.decoding(), self.rows(),
+        ]
+        ghosts = ["ghost use Rattle.std.specs.Prelude.{refl};"]
+        if any(it.optional for it in self.columns):
+            ghosts.append("ghost use Rattle.der_core.specs.Grammar.{plain_option};")
+        uses = self.crate.imports(self.name, self.uses)
+        return "\n\n".join([f"//! {self.rust}.", "\n".join(ghosts), uses, *parts]) + "\n"
+
+    def answer(self):
+        """The file of the proof that the rows are those of the record, and its text."""
+        path = f"{names.module(self.name)}/{self.rust}Rows/with_rows"
+        return f"proofs/{path}/Answers.antt", ANSWER.format(
+            crate=self.crate.name, path=path.replace("/", ".")
+        )
+
+    def struct(self):
+        notes = ["Other fields are rejected."] if self.definition.type.extensible else []
+        fields = "\n".join(f"    pub {it.label}: {it.owned}," for it in self.columns)
+        return (f"{layout.comment(self.definition, notes)}\n#[derive(Debug, Drop, PartialEq, Eq)]\n"
+                f"pub struct {self.rust} {{\n{fields}\n}}")
+
+    def described(self):
+        return f"impl Described for {self.rust} {{\n    type By = AsRecord;\n}}"
+
+    def view(self):
+        def clause(name, side):
+            terms = layout.pairs([it.term(side, "r") for it in self.columns], 4)
+            return f"    ghost {name} = {{ λ r. {terms} }};"
+
+        shape = "⟦<Row as FieldRow>⟧.fields"
+        if self.is_same:
+            return (f"impl FieldsView for {self.rust} {{\n    ghost body = {{ {shape} }};\n\n"
+                    f"{clause('view', 'plain')}\n}}")
+        return (f"impl Fields for {self.rust} {{\n    ghost fields = {{ {shape} }};\n\n"
+                f"{clause('fields_plain', 'plain')}\n\n{clause('fields_written', 'written')}\n}}")
+
+    def decoding(self):
+        call = f"fn decode_fields(alloc: Global, reader: &mut R) -> Result<{self.rust}, Error>"
+        return (f"impl<'a, R: Reader<'a>> DecodeFields<'a, R> for {self.rust} {{\n    {call} {{\n"
+                f"{self.read()}\n    }}\n}}")
+
+    def read(self):
+        if not self.by_hand:
+            self.uses.add("der_core::read_row")
+            words = [it.word for it in self.columns]
+            line = f"        read_row!(alloc, reader; {self.rust} {{ {', '.join(words)} }})"
+            if len(line) > layout.LINE:
+                line = (f"        read_row!(alloc, reader; {self.rust} {{\n"
+                        f"{layout.filled(words, 12)}\n        }})")
+            return line
+        self.uses.add("der_core::describing::ReadRow")
+        if any(not it.mode and not it.default for it in self.columns):
+            self.uses.add("der_core::describing::Whole")
+        row = layout.flat(layout.nested([it.label for it in self.columns]))
+        fields = tuple((it.label, it.back) for it in self.columns)
+        made = layout.laid(Call("Ok", (Literal(self.rust, fields),)), 8)
+        self.uses.update(f"der_core::making::{it.mode}_of" for it in self.columns
+                         if it.optional and it.mode)
+        return f"        let {row} = Row::read_row(alloc, reader)?;\n        {made}"
+
+    def rows(self):
+        if self.by_hand:
+            lent = (Lent(layout.nested([it.lend(of) for it in self.columns]))
+                    for of in ("self", "other"))
+            body = f"        {layout.laid(Call('user.take', tuple(lent)), 8)}"
+            self.lend_uses()
+        else:
+            self.uses.add("der_core::lend")
+            words = [it.word for it in self.columns]
+            body = f"        lend!(self, other, user; {', '.join(words)})"
+            if len(body) > layout.LINE:
+                body = f"        lend!(self, other, user;\n{layout.filled(words, 12, ')')}"
+        return (f"impl Rows for {self.rust} {{\n"
+                "    fn with_rows<U: RowUser>(&self, other: &Self, user: &mut U) -> U::Answer {\n"
+                f"{body}\n    }}\n\n    ghost apart = {{ refl }};\n}}")
+
+    def lend_uses(self):
+        for it in self.columns:
+            if it.optional and it.mode:
+                self.uses.add(f"der_core::making::{it.mode}_ref")
+            elif it.default:
+                self.uses |= it.default.uses
+            else:
+                self.uses.add("der_core::ImplicitRef" if it.mode == "implicit"
+                              else "der_core::EncodeRef")
+
+
+ANSWER = """\
+-- What is lent are the fields of the record.
+use Rattle.std.proofs.Common.{{rules}}
+use Rattle.{crate}.proofs.{path}.Goals as goal
+
+pub returns : goal.returns
+returns g c = c.lend.ensures _ _ (search rules) (search rules)
+"""
