@@ -35,7 +35,7 @@ use Rattle.cert_desk_listing.proofs.Der.Results.{plain-append}
 use Rattle.cert_desk.specs.declared.fault.Fault.TheVariants as faults
 use Rattle.cert_desk.specs.declared.role.Role.TheVariants as roles
 
--- The profile of a subscriber keeps the whole of such a name.
+-- The profile of a subscriber keeps the whole of this name.
 stays_if : (r : List AttributeTypeAndValue) → HasSome r → list_all may_stay (relative_plain r) ≡ true → stays (relative_plain r) ≡ true
 stays_if [] some e = absurd (omega (arith, some))
 stays_if (a ∷ r) some e = ap (λ b. not b && list_all may_stay (relative_plain (a ∷ r))) (eqb-suc-zero (length (relative_plain r))) ∙ e

@@ -152,7 +152,7 @@ fn chain_of(
     }
 }
 
-// Returns the encoding of the certificate at an index of such a chain, or the status.
+// Returns the encoding of the certificate at an index of an issued chain, or the status.
 fn certificate_at(
     alloc: Global,
     orders: &[u8],
@@ -176,7 +176,7 @@ fn certificate_at(
     }
 }
 
-// Returns the encoding of the TBSCertificate at an index of such a chain, or the status.
+// Returns the encoding of the TBSCertificate at an index of an issued chain, or the status.
 fn signed_part_at(
     alloc: Global,
     orders: &[u8],

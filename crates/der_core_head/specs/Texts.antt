@@ -15,8 +15,8 @@ pub data Repertoire : Type 0 where
   ascii : Repertoire  -- bytes below 128
   any_octet : Repertoire  -- all bytes
 
--- The characters of a PrintableString besides letters and digits: space ' ( ) + , - . / : = ?
--- (X.680 41.4).
+-- The characters of a PrintableString besides letters and digits (X.680 41.4): space, apostrophe,
+-- parentheses, plus, comma, hyphen, full stop, slash, colon, equals sign, question mark.
 abbrev pub printable_signs : List ℕ
 printable_signs = 32 ∷ 39 ∷ 40 ∷ 41 ∷ 43 ∷ 44 ∷ 45 ∷ 46 ∷ 47 ∷ 58 ∷ 61 ∷ 63 ∷ []
 
