@@ -1,6 +1,7 @@
 -- Lemmas about texts for other crates.
 pub use Rattle.der_core_head.proofs.TextLaws.{text_sound, text_again, utf8_sound}
 pub use Rattle.der_core_head.proofs.TextLaws.{utf8_again, printable_below, all_ascii}
+pub use Rattle.der_core_head.proofs.TextLaws.{numeric_below, visible_below}
 pub use Rattle.der_core_head.proofs.TextLaws.{bmp_octets-units, are_pairs-octets}
 pub use Rattle.der_core_head.proofs.TextLaws.{units-octets, bmp_below, bmp_sound}
 pub use Rattle.der_core_head.proofs.TextLaws.{bmp_again, is_text, utf8_read-ok}

@@ -2,3 +2,4 @@
 unfoldable pub use Rattle.der_core_coding.specs.CoreHead.Grammar.{either_at}
 unfoldable pub use Rattle.der_core_coding.specs.CoreHead.Shapes.{IsBody, IsContent, IsValid}
 unfoldable pub use Rattle.der_core_coding.specs.CoreHead.Shapes.{body_octets, contents, octets_of}
+unfoldable pub use Rattle.der_core_coding.specs.CoreHead.Writing.{both_len}

@@ -340,7 +340,7 @@ impl<'a, F: LentField> FirstTag for FieldOf<'a, F> {
 
 /// A borrowed row as fields that implement `EncodeFields` and `FieldsOrd`.
 #[derive(Drop)]
-struct RowOf<'a, R>(&'a R);
+pub(crate) struct RowOf<'a, R>(pub(crate) &'a R);
 
 impl<'a, R: LentRow> FieldRow for RowOf<'a, R> {
     ghost fields = { R.fields };
@@ -378,14 +378,17 @@ impl<A: LentField, B: LentRow> LentRow for (A, B) {
 
     ghost fields_written = { λ x. (A.written x.0, B.fields_written x.1) };
 
-    #[inline(always)]
+    #[tactic(auto, unfolding(crate::specs::Opened::both_len))]
     fn row_len(&self) -> Result<Length, Error> {
-        (FieldOf(&self.0), RowOf(&self.1)).fields_len()
+        let first = self.0.field_len()?;
+        let others = self.1.row_len()?;
+        first + others
     }
 
-    #[inline(always)]
+    #[tactic(auto, using(crate::proofs::Cited::first_added, crate::proofs::Cited::value_then_added), unfolding(crate::specs::Opened::body_octets))]
     fn encode_row<W: Writer>(&self, writer: &mut W) -> Result<(), Error> {
-        (FieldOf(&self.0), RowOf(&self.1)).encode_fields(writer)
+        self.0.encode_field(writer)?;
+        self.1.encode_row(writer)
     }
 
     fn row_cmp(&self, other: &Self) -> Result<Ordering, Error> {

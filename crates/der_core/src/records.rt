@@ -10,8 +10,10 @@ ghost use Rattle.der_core_coding.specs.CoreHead.Spelling.{is_body_apart};
 ghost use Rattle.der_core_coding.specs.CoreOctets.Outputs.{AddsFront, Continues};
 ghost use Rattle.der_core.specs.Orders.{bodies_cmp, Overflows};
 
-use crate::lent::LentRow;
+use crate::lent::{LentRow, RowOf};
 use crate::order::{OrderWay, Ordered};
+use crate::pairs::FieldsOrd;
+use der_core_coding::EncodeFields;
 use der_core_coding::core_head::{Error, Length, Tag};
 use der_core_coding::core_octets::{Header, Reader, Writer};
 use der_core_coding::core_values::describing::{AsReadWay, DecodeWay, Described, TagWay, Way};
@@ -52,7 +54,7 @@ macro_rules! lend {
     };
     ($value:expr, $other:expr, $user:expr;
         $($field:ident $(: $form:ident $($n:literal $($kind:ident)?)?)?),+ $(,)?) => {
-        $user.take(
+        $user.take_lent(
             &$crate::lend!(@row
                 $($crate::lend!(@field $value, $field $($form $($n $($kind)?)?)?)),+),
             &$crate::lend!(@row
@@ -114,11 +116,20 @@ pub trait RowUser {
     ghost answers: { (b : Body) → BodyValue b → BodyValue b → Self → Self → Self.Answer → Type 0 };
 
     /// Receives the two rows.
-    fn take<Row: LentRow>(&mut self, row: &Row, other: &Row) -> Self::Answer
+    fn take<Row: EncodeFields + FieldsOrd>(&mut self, row: &Row, other: &Row) -> Self::Answer
+        ensures { answers Row.fields (Row.fields_written row.now) (Row.fields_written other.now)
+            self.old self.new result };
+
+    /// Receives two rows that are lent, as `lend!` makes them.
+    #[inline(always)]
+    final fn take_lent<Row: LentRow>(&mut self, row: &Row, other: &Row) -> Self::Answer
         // The clause holds for any values that the rows are known to encode.
         ensures { (v w : BodyValue Row.fields) → Row.fields_written row.now ≡ v
             → Row.fields_written other.now ≡ w
-            → answers Row.fields v w self.old self.new result };
+            → answers Row.fields v w self.old self.new result }
+    {
+        self.take(&RowOf(row), &RowOf(other))
+    }
 }
 
 /// Encodes the fields of the first value.
@@ -130,8 +141,12 @@ impl<W: Writer> RowUser for W {
         × AddsFront (body_octets b v) (W.out old) (W.out new) };
 
     #[inline(always)]
-    fn take<Row: LentRow>(&mut self, row: &Row, _other: &Row) -> Result<(), Error> {
-        row.encode_row(self)
+    fn take<Row: EncodeFields + FieldsOrd>(
+        &mut self,
+        row: &Row,
+        _other: &Row,
+    ) -> Result<(), Error> {
+        row.encode_fields(self)
     }
 }
 
@@ -145,8 +160,12 @@ impl RowUser for Counting {
     ghost answers = { λ b v _ _ _ result. GivesNow (λ l. l.value) result (size_body b v) };
 
     #[inline(always)]
-    fn take<Row: LentRow>(&mut self, row: &Row, _other: &Row) -> Result<Length, Error> {
-        row.row_len()
+    fn take<Row: EncodeFields + FieldsOrd>(
+        &mut self,
+        row: &Row,
+        _other: &Row,
+    ) -> Result<Length, Error> {
+        row.fields_len()
     }
 }
 
@@ -163,8 +182,12 @@ impl RowUser for Comparing {
         × IfErr result (λ e. Overflows e (size_body b v) (size_body b w)) };
 
     #[inline(always)]
-    fn take<Row: LentRow>(&mut self, row: &Row, other: &Row) -> Result<Ordering, Error> {
-        row.row_cmp(other)
+    fn take<Row: EncodeFields + FieldsOrd>(
+        &mut self,
+        row: &Row,
+        other: &Row,
+    ) -> Result<Ordering, Error> {
+        row.fields_cmp(other)
     }
 }
 

@@ -8,7 +8,7 @@ use Rattle.std.specs.Str.{is_utf8, IsAscii, IsUtf8}
 use Rattle.std.proofs.lemmas.Bool.{cond-true, and_parts, or_cases, false≢true}
 use Rattle.der_core_head.specs.declared.error.ErrorKind.TheVariants as kinds
 use Rattle.der_core_head.specs.declared.tag.Tag.{Tag}
-use Rattle.der_core_head.specs.Texts.{Repertoire, printable, printable_signs, is_within, IsText, text_read, IsUtf8Text, utf8_read}
+use Rattle.der_core_head.specs.Texts.{Repertoire, printable, numeric, visible, printable_signs, is_within, IsText, text_read, IsUtf8Text, utf8_read}
 use Rattle.der_core_head.proofs.Results.{fine, IsBytes, octets_are, ok_is, if_ok}
 use Rattle.der_core_head.specs.Octets.{IsOctets}
 use Rattle.der_core_head.specs.BmpStrings.{is_unit, IsBmp, bmp_octets, are_pairs, units, bmp_read}
@@ -50,6 +50,12 @@ printable_below b e =
   where
     letters : is_ascii_alphanumeric b ≡ true → b < 128
     letters f = grind (arith, nat_tests)
+
+pub numeric_below : (b : ℕ) → is_within numeric b ≡ true → b < 128
+numeric_below b e = grind (arith, nat_tests)
+
+pub visible_below : (b : ℕ) → is_within visible b ≡ true → b < 128
+visible_below b e = grind (arith, nat_tests)
 
 pub all_ascii : (p : ℕ → Bool) (w : List ℕ) → ((b : ℕ) → p b ≡ true → b < 128) → list_all p w ≡ true → IsAscii w
 all_ascii p [] below e i = omega arith

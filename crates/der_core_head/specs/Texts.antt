@@ -1,8 +1,8 @@
 -- Character strings: their bytes, and the characters that they allow (X.680 41; X.690 8.23).
 use Rattle.std.specs.Prelude.{◌≡◌, ℕ, List, [], ◌∷◌, Bool, true, Result, Ok, Err, nat_lt, ◌==◌}
-use Rattle.std.specs.Prelude.{◌||◌, if◌then◌else◌}
+use Rattle.std.specs.Prelude.{nat_le, ◌&&◌, ◌||◌, if◌then◌else◌}
 use Rattle.std.specs.List.{list_all, list_any}
-use Rattle.std.specs.Char.{is_ascii_alphanumeric}
+use Rattle.std.specs.Char.{is_ascii_alphanumeric, is_ascii_digit}
 use Rattle.std.specs.Str.{is_utf8}
 use Rattle.der_core_head.specs.declared.error.ErrorKind.{ErrorKind}
 use Rattle.der_core_head.specs.declared.error.ErrorKind.TheVariants as kinds
@@ -12,6 +12,8 @@ use Rattle.der_core_head.specs.Octets.{IsOctets}
 -- The bytes that a string type allows.
 pub data Repertoire : Type 0 where
   printable : Repertoire  -- letters, digits and some other characters (X.680 41.4)
+  numeric : Repertoire  -- digits and space (X.680 41.2)
+  visible : Repertoire  -- space, and the characters of ASCII that print
   ascii : Repertoire  -- bytes below 128
   any_octet : Repertoire  -- all bytes
 
@@ -23,6 +25,8 @@ printable_signs = 32 ∷ 39 ∷ 40 ∷ 41 ∷ 43 ∷ 44 ∷ 45 ∷ 46 ∷ 47 ∷
 -- The repertoire has this byte.
 abbrev pub is_within : Repertoire → ℕ → Bool
 is_within printable b = is_ascii_alphanumeric b || list_any (λ c. c == b) printable_signs
+is_within numeric b = is_ascii_digit b || b == 32
+is_within visible b = nat_le 32 b && nat_lt b 127
 is_within ascii b = nat_lt b 128
 is_within any_octet b = true
 

@@ -236,7 +236,7 @@ impl<P: Profile> Described for TbsCertificateInner<P> {
 
 impl<P: Profile> Rows for TbsCertificateInner<P> {
     fn with_rows<U: RowUser>(&self, other: &Self, user: &mut U) -> U::Answer {
-        user.take(&self.row(), &other.row())
+        user.take_lent(&self.row(), &other.row())
     }
 
     ghost apart = { refl };
