@@ -11,7 +11,7 @@ use Rattle.cert_desk_checking.specs.DeskBundle.declared.standing.Standing.{Stand
 use Rattle.cert_desk_checking.specs.DeskBundle.declared.standing.Standing.TheVariants as standings
 use Rattle.cert_desk_checking.specs.DeskBundle.Chains.{Chain}
 use Rattle.cert_desk_checking.specs.DeskRules.Judging.{Answers, PlainAnchor, Terms}
-use Rattle.cert_desk_checking.specs.DeskRules.Verdicts.{IsVerdict, Trusted}
+use Rattle.cert_desk_checking.specs.DeskRules.Verdicts.{IsVerdict}
 use Rattle.cert_desk_checking.proofs.ChainLaws.{only_trusted}
 use Rattle.cert_desk_checking.proofs.DeskBundle.OneChain.{one_chain}
 use Rattle.cert_desk_checking.specs.Issuers.{as_anchor}

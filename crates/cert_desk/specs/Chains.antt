@@ -1,5 +1,5 @@
 -- Issued chains.
-use Rattle.std.specs.Prelude.{◌≡◌, ℕ, ◌-◌, List, length, map, Some, slice_get}
+use Rattle.std.specs.Prelude.{◌≡◌, ℕ, List, length, map, Some, slice_get}
 use Rattle.std.specs.List.{AllByRecursion}
 use Rattle.cert_desk_listing.specs.Oid.Bound.{Bound}
 use Rattle.cert_desk_listing.specs.Der.Limits.{length_max}

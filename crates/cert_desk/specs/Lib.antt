@@ -4,12 +4,14 @@ pub mod Acceptance
 pub mod Allowances
 pub mod Chains
 pub mod DigestSigners
+pub mod Explaining
 pub mod Issuable
 pub mod Laws
 pub mod Making
 pub mod Lines
 pub mod Ordered
 pub mod PlainOrders
+pub mod Reasons
 pub mod Refusals
 pub mod Roles
 pub mod Runs

@@ -1,5 +1,5 @@
 -- Built certificates and issued chains, as contracts see them.
-use Rattle.std.specs.Prelude.{◌≡◌, ◌++◌, ℕ, ◌-◌, List, Result, Ok, Err}
+use Rattle.std.specs.Prelude.{◌≡◌, ◌++◌, ℕ, List, Result, Ok, Err}
 use Rattle.cert_desk_listing.specs.Oid.Bound.{Bound}
 use Rattle.cert_desk_listing.specs.Der.BitStrings.{Bits}
 use Rattle.cert_desk_listing.specs.Der.Limits.{length_max}

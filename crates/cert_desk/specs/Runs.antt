@@ -53,19 +53,28 @@ OrdersBecome orders (outcomes.BadLine line) = ⊥
 OrdersBecome orders outcomes.Device = ⊥
 OrdersBecome orders outcomes.OutOfMemory = Unit {0}
 
--- The outcome for an orders file: that for its orders, if it was read to its end; its first wrong
--- line, which is 1 if it has too many bytes; or the reason why it wasn't read.
+-- The outcome for the bytes of an orders file: that for its orders, or its first wrong line.
+abbrev pub OctetsBecome : List ℕ → Outcome → Type 0
+OctetsBecome octets (outcomes.Issued issued) =
+    (orders : List Order) × SaysOrders octets orders × OrdersBecome orders (outcomes.Issued issued)
+OctetsBecome octets (outcomes.Refused error) =
+    (orders : List Order) × SaysOrders octets orders × OrdersBecome orders (outcomes.Refused error)
+OctetsBecome octets (outcomes.BadLine line) = faulty_line octets ≡ Some line
+OctetsBecome octets outcomes.Device = ⊥
+OctetsBecome octets outcomes.OutOfMemory = Unit {0}
+
+-- The outcome for an orders file: that for its bytes, if it was read to its end; its first line if
+-- it has too many bytes; or the reason why it wasn't read.
 abbrev pub FileBecomes : Device → Outcome → Type 0
 FileBecomes input (outcomes.Issued issued) =
     (octets : List ℕ) × IsWhole input most_octets octets
-    × ((orders : List Order) × SaysOrders octets orders
-    × OrdersBecome orders (outcomes.Issued issued))
+    × OctetsBecome octets (outcomes.Issued issued)
 FileBecomes input (outcomes.Refused error) =
     (octets : List ℕ) × IsWhole input most_octets octets
-    × ((orders : List Order) × SaysOrders octets orders
-    × OrdersBecome orders (outcomes.Refused error))
+    × OctetsBecome octets (outcomes.Refused error)
 FileBecomes input (outcomes.BadLine line) =
-    ((octets : List ℕ) × IsWhole input most_octets octets × (faulty_line octets ≡ Some line))
+    ((octets : List ℕ) × IsWhole input most_octets octets
+    × OctetsBecome octets (outcomes.BadLine line))
     ⊎ (IsUnread input most_octets reasons.TooMuch × (line ≡ 1))
 FileBecomes input outcomes.Device = IsUnread input most_octets reasons.Device
 FileBecomes input outcomes.OutOfMemory = ((octets : List ℕ) × IsWhole input most_octets octets)

@@ -120,7 +120,7 @@ fn time_in_range(spelled: &Time)
 }
 
 /// Parses a date.
-fn date_of(text: &str) -> Option<Time>
+pub(crate) fn date_of(text: &str) -> Option<Time>
     ensures date { IfSome result (λ t. IsTextOf text.now (time_date t)) }
     ensures spelled { IfSome result (λ t. time_value t ≡ time_of (time_date t)) }
     ensures none { result ≡ None → IsNoDate text.now }

@@ -124,7 +124,7 @@ fn listing_asked<'a>(words: &'a [String]) -> Option<(FileKind, &'a str)>
 }
 
 // Parses `issue ORDERS`. Returns the name of the orders file.
-fn chain_asked<'a>(words: &'a [String]) -> Option<&'a str>
+pub(crate) fn chain_asked<'a>(words: &'a [String]) -> Option<&'a str>
     ensures read { IfSome result (λ r. AskIssue (map string_bytes words.now) r.now) }
     ensures refused { IfNone result (AskNoChain (map string_bytes words.now)) }
 {

@@ -5,8 +5,9 @@
 //!   [`SignatureJudge`] is the trait of signature verifiers.
 //! - [`show_certificate`], [`show_list`] and [`show_request`] print certificates, CRLs and CSRs.
 //! - [`issue`] issues the chain that orders ask for, and [`orders_in`] parses orders files.
-//! - [`run_check`], [`run_show`] and [`run_orders`] are complete runs over inputs and outputs, and
-//!   [`obey`] is the program `cert_desk`.
+//! - [`run_check`], [`run_show`] and [`run_orders`] are complete runs over inputs and outputs.
+//!   [`obey`] runs a command line. The program `cert_desk` is [`obey_with_reasons`], which also says
+//!   why an orders file is wrong.
 //! - [`laws`] are facts about every chain, every file of trust anchors and every issued chain.
 //!
 //! This function validates a chain of one certificate, which is the trust anchor too. The program
@@ -51,6 +52,7 @@ pub mod issuing_laws;
 pub mod laws;
 mod making;
 mod naming;
+mod order_reasons;
 mod order_runs;
 mod outcome;
 mod role;
@@ -61,7 +63,7 @@ pub use crate::digest_signer::DigestSigner;
 pub use crate::issue_error::IssueError;
 pub use crate::issued::Issued;
 pub use crate::issuing::issue;
-pub use crate::order_runs::{run_issue, run_orders};
+pub use crate::order_runs::{run_issue, run_orders, run_orders_with_reasons};
 pub use cert_desk_checking::cert_anchors::TrustAnchorChoice;
 pub use cert_desk_checking::desk_bundle::{
     Bundle, BundleError, Entry, FaultKind, ReadError, Standing, first_fault,
@@ -89,7 +91,9 @@ pub use cert_desk_listing::{
 };
 pub use cert_desk_orders::cert_parts::{AlgorithmIdentifier, Raw, SubjectPublicKeyInfo, Time};
 pub use cert_desk_orders::types::BitString;
-pub use cert_desk_orders::{Order, OrdersError, orders_in};
+pub use cert_desk_orders::{
+    Order, OrdersError, Why, WrongLine, orders_in, reason_line, wrong_line,
+};
 pub use command::{Arguments, Command, USAGE};
-pub use running::obey;
+pub use running::{obey, obey_with_reasons};
 pub use x509_cert_builders::{SignError, Signer};

@@ -1,18 +1,22 @@
 //! Complete runs of `issue`, over any input and outputs.
-ghost use Rattle.std.specs.Prelude.{◌≡◌, length, map, take, IfOk};
+ghost use Rattle.std.specs.Prelude.{◌≡◌, length, map, take, IfErr, IfOk};
 ghost use Rattle.cert_desk_listing.specs.DeskIo.Devices.{sink, source};
 ghost use Rattle.cert_desk.specs.declared.outcome.Outcome.{Outcome};
 ghost use Rattle.cert_desk.specs.Roles.{signers_for};
 ghost use Rattle.cert_desk.specs.Runs.{signer_key, signing_keys, OrdersBecome, FileBecomes};
-ghost use Rattle.cert_desk.specs.Runs.{IsTold};
+ghost use Rattle.cert_desk.specs.Runs.{IsTold, OctetsBecome};
+ghost use Rattle.cert_desk.specs.Explaining.{IsExplained, IsFileExplained, IsTried};
+ghost use Rattle.cert_desk_listing.specs.DeskIo.Whole.{IsWhole, most_octets};
 
 use crate::digest_signer::DigestSigner;
 use crate::issue_error::IssueError;
 use crate::issue_lines::{fault_line, refusal_line};
 use crate::issuing::issue;
+use crate::order_reasons::reason_of;
 use crate::outcome::Outcome;
 use cert_desk_listing::desk_io::{
     ExitStatus, Input, Output, ReadAllError, answer, complain, read_all, tell_device, tell_memory,
+    write_all,
 };
 use cert_desk_orders::{Order, OrdersError, orders_in};
 use std::alloc::{AllocError, AllocFailed, Global};
@@ -57,20 +61,39 @@ fn find_issued(alloc: Global, orders: &[Order]) -> Outcome
     }
 }
 
+/// Reads an orders file. If it can't be read, returns the outcome.
+fn read<I: Input>(alloc: Global, input: &mut I) -> Result<Vec<u8>, Outcome>
+    ensures whole { IfOk result (λ octets. IsWhole
+        (source I.takes I.is_ended I.failures input.old input.new) most_octets octets.items) }
+    ensures unread { IfErr result (λ outcome. FileBecomes
+        (source I.takes I.is_ended I.failures input.old input.new) outcome) }
+{
+    match read_all(alloc, input, u32::MAX) {
+        Ok(octets) => Ok(octets),
+        Err(ReadAllError::TooMuch) => Err(Outcome::BadLine(1)),
+        Err(ReadAllError::Device) => Err(Outcome::Device),
+        Err(ReadAllError::OutOfMemory) => Err(Outcome::OutOfMemory),
+    }
+}
+
+/// Issues the chain that the bytes of an orders file ask for, and returns the outcome.
+fn find_in(alloc: Global, octets: &[u8]) -> Outcome
+    ensures { OctetsBecome octets.now result }
+{
+    match orders_in(alloc, octets) {
+        Ok(orders) => find_issued(alloc, orders.as_slice()),
+        Err(OrdersError::Line(line)) => Outcome::BadLine(line),
+        Err(OrdersError::OutOfMemory) => Outcome::OutOfMemory,
+    }
+}
+
 /// Reads an orders file, issues its chain, and returns the outcome.
 fn find<I: Input>(alloc: Global, input: &mut I) -> Outcome
     ensures { FileBecomes (source I.takes I.is_ended I.failures input.old input.new) result }
 {
-    let octets = match read_all(alloc, input, u32::MAX) {
-        Ok(octets) => octets,
-        Err(ReadAllError::TooMuch) => return Outcome::BadLine(1),
-        Err(ReadAllError::Device) => return Outcome::Device,
-        Err(ReadAllError::OutOfMemory) => return Outcome::OutOfMemory,
-    };
-    match orders_in(alloc, octets.as_slice()) {
-        Ok(orders) => find_issued(alloc, orders.as_slice()),
-        Err(OrdersError::Line(line)) => Outcome::BadLine(line),
-        Err(OrdersError::OutOfMemory) => Outcome::OutOfMemory,
+    match read(alloc, input) {
+        Ok(octets) => find_in(alloc, octets.as_slice()),
+        Err(outcome) => outcome,
     }
 }
 
@@ -143,4 +166,60 @@ pub fn run_orders<I: Input, O: Output, E: Output>(
 {
     let outcome = find(alloc, input);
     tell(alloc, &outcome, out, err)
+}
+
+/// Writes a text that follows the line of a run. If it can't be written, that isn't reported.
+pub(crate) fn add<E: Output>(err: &mut E, text: &[u8])
+    ensures { IsTried (sink E.gives E.failures err.old err.new) text.now }
+{
+    let _ = write_all(err, text);
+}
+
+/// Writes the line that says why an orders file is wrong or its orders are rejected, if a run ended
+/// with this status.
+fn explain<E: Output>(
+    alloc: Global,
+    octets: &[u8],
+    outcome: &Outcome,
+    status: ExitStatus,
+    err: &mut E,
+)
+    ensures { IsExplained (sink E.gives E.failures err.old err.new) octets.now outcome.now }
+{
+    if status != ExitStatus::Refused && status != ExitStatus::Arguments {
+        return;
+    }
+    if let Ok(Some(text)) = reason_of(alloc, octets, outcome) {
+        add(err, text.as_bytes());
+    }
+}
+
+/// Issues the chain that an orders file asks for, as `run_orders` does, and says why if it can't.
+///
+/// After the line of `run_orders`, `err` gets one more line if there is more to say: for a wrong
+/// file, that of `reason_line`, and for a rejected order, `order PLACE line N WORD: ..`. If memory
+/// runs out for that line, or it can't be written, the status is that of `run_orders`.
+pub fn run_orders_with_reasons<I: Input, O: Output, E: Output>(
+    alloc: Global,
+    input: &mut I,
+    out: &mut O,
+    err: &mut E,
+) -> ExitStatus
+    // The first line and the status report the outcome for the bytes that were read, and the second
+    // line says why.
+    ensures { (outcome : Outcome) × (told : E)
+        × FileBecomes (source I.takes I.is_ended I.failures input.old input.new) outcome
+        × IsTold (sink O.gives O.failures out.old out.new)
+        (sink E.gives E.failures err.old told) outcome result
+        × IsFileExplained (source I.takes I.is_ended I.failures input.old input.new)
+        (sink E.gives E.failures told err.new) outcome }
+{
+    let octets = match read(alloc, input) {
+        Ok(octets) => octets,
+        Err(outcome) => return tell(alloc, &outcome, out, err),
+    };
+    let outcome = find_in(alloc, octets.as_slice());
+    let status = tell(alloc, &outcome, out, err);
+    explain(alloc, octets.as_slice(), &outcome, status, err);
+    status
 }

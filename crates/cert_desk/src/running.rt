@@ -4,13 +4,17 @@ ghost use Rattle.cert_desk_listing.specs.DeskIo.Devices.{sink};
 ghost use Rattle.cert_desk_listing.specs.DeskIo.NamedInputs.{inputs};
 ghost use Rattle.cert_desk_checking.specs.Runs.{judging};
 ghost use Rattle.cert_desk.specs.Commands.{HasLimit};
+ghost use Rattle.cert_desk.specs.Explaining.{IsCommandExplained, IsNameExplained};
 ghost use Rattle.cert_desk.specs.Running.{IsChecked, IsShown, IsIssued, IsRun, IsObeyed};
 
-use crate::command::{Arguments, Command, USAGE};
-use crate::order_runs::run_orders;
+use crate::command::{Arguments, Command, USAGE, chain_asked};
+use crate::order_runs::{add, run_orders, run_orders_with_reasons};
 use cert_desk_checking::desk_rules::SignatureJudge;
 use cert_desk_checking::run_check;
-use cert_desk_listing::desk_io::{ExitStatus, Input, NamedInputs, Output, complain, tell_unopened};
+use cert_desk_listing::desk_io::{
+    ExitStatus, Input, NamedInputs, OpenError, Output, complain, tell_device, tell_memory,
+    tell_unopened,
+};
 use cert_desk_listing::{FileKind, run_show};
 use std::alloc::Global;
 
@@ -92,6 +96,34 @@ fn issue<I: Input + Drop, F: NamedInputs<I>, O: Output, E: Output>(
     run_orders(alloc, &mut input, out, err)
 }
 
+// Opens an orders file, issues the chain that it asks for, and says why if it can't.
+fn issue_with_reasons<I: Input + Drop, F: NamedInputs<I>, O: Output, E: Output>(
+    alloc: Global,
+    files: &F,
+    orders: &str,
+    out: &mut O,
+    err: &mut E,
+) -> ExitStatus
+    ensures { (told : E)
+        × IsIssued (inputs I.takes I.is_ended I.failures (F.is_opened files.now)
+        (F.is_unopened files.now))
+        (sink O.gives O.failures out.old out.new) (sink E.gives E.failures err.old told)
+        orders.now result
+        × IsNameExplained (inputs I.takes I.is_ended I.failures (F.is_opened files.now)
+        (F.is_unopened files.now))
+        (sink E.gives E.failures told err.new) orders.now }
+{
+    match files.open(orders) {
+        Ok(mut input) => run_orders_with_reasons(alloc, &mut input, out, err),
+        Err(OpenError::Device) => {
+            let status = tell_device(err);
+            add(err, b"orders: the file can't be opened\n");
+            status
+        }
+        Err(OpenError::OutOfMemory) => tell_memory(err),
+    }
+}
+
 // Runs a command.
 fn run<I: Input + Drop, F: NamedInputs<I>, O: Output, E: Output, J: SignatureJudge>(
     alloc: Global,
@@ -135,5 +167,32 @@ pub fn obey<I: Input + Drop, F: NamedInputs<I>, O: Output, E: Output, J: Signatu
     match Command::parse(words) {
         Some(command) => run(alloc, files, &command, out, err, judge),
         None => complain(err, USAGE.as_bytes(), ExitStatus::Arguments),
+    }
+}
+
+/// Runs the command that the words of a command line ask for, as `obey` does. If that is `issue`,
+/// and no chain is issued, `err` gets one more line, which says why, as for
+/// `run_orders_with_reasons`, or that the file can't be opened.
+pub fn obey_with_reasons<
+    I: Input + Drop,
+    F: NamedInputs<I>,
+    O: Output,
+    E: Output,
+    J: SignatureJudge,
+>(alloc: Global, files: &F, words: &[String], out: &mut O, err: &mut E, judge: &mut J) -> ExitStatus
+    // The command is obeyed as by `obey`, and then the reason is added.
+    ensures { (told : E)
+        × IsObeyed (inputs I.takes I.is_ended I.failures (F.is_opened files.now)
+        (F.is_unopened files.now))
+        (judging J.answers J.questions judge.old judge.new)
+        (sink O.gives O.failures out.old out.new) (sink E.gives E.failures err.old told)
+        (map string_bytes words.now) result
+        × IsCommandExplained (inputs I.takes I.is_ended I.failures (F.is_opened files.now)
+        (F.is_unopened files.now))
+        (sink E.gives E.failures told err.new) (map string_bytes words.now) }
+{
+    match chain_asked(words) {
+        Some(orders) => issue_with_reasons(alloc, files, orders, out, err),
+        None => obey(alloc, files, words, out, err, judge),
     }
 }

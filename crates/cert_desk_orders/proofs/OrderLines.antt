@@ -1,6 +1,6 @@
 -- The lines of orders, order by order.
-use Rattle.std.proofs.Common.{◌≡◌, ℕ, suc, ◌+◌, ◌<◌, arith, Bool, true, false, cond, not, List, [], ◌∷◌, ◌++◌, append-nil, append_assoc, ◌≤◌, length, length-drop, map, take, drop, drop-drop, drop_of_length-le, codes, Some, None, refl, ap, sym, ◌∙◌, subst, subst₂}
-use Rattle.std.proofs.lemmas.List.{drop-map, length-map, take-map}
+use Rattle.std.proofs.Common.{◌≡◌, ℕ, suc, ◌+◌, ◌<◌, arith, Bool, true, false, cond, not, List, [], ◌∷◌, ◌++◌, append-nil, append_assoc, ◌≤◌, length, length-drop, map, take, drop, drop-drop, drop_of_length-le, codes, Some, None, refl, ap, ap₂, sym, ◌∙◌, subst, subst₂, Bor}
+use Rattle.std.proofs.lemmas.List.{drop-map, length-map, map-append, take-map}
 use Rattle.std.specs.List.{position_or_len}
 use Rattle.std.specs.Option.{option_or}
 use Rattle.cert_desk_orders.specs.declared.line.Line.{Line}
@@ -83,9 +83,7 @@ module _ (all : List PlainLine) (orders : List Order) (left : List PlainLine) (i
   IsFaultIn-all errors.OutOfMemory e = tt
 
 -- Lines that are parsed from an index on.
-module _ (orders : List Order) (lines : List Line) (start n : ℕ) (below : start < length lines)
-    (is : IsReadTo (lines_plain lines) orders (lines_plain (drop start lines)))
-    (rest : List Line) (left : rest ≡ drop start lines) (len : n ≡ order_len (lines_plain rest)) where
+module _ (lines : List Line) (start n : ℕ) (below : start < length lines) (rest : List Line) (left : rest ≡ drop start lines) (len : n ≡ order_len (lines_plain rest)) where
   behind : n ≡ order_len (lines_plain (drop start lines))
   behind = len ∙ ap (λ ls. order_len (lines_plain ls)) left
 
@@ -105,19 +103,39 @@ module _ (orders : List Order) (lines : List Line) (start n : ℕ) (below : star
       ap (map line_plain) (sym (drop-drop n start lines)) ∙ sym (drop-map line_plain n (drop start lines))
       ∙ ap (λ k. drop k (lines_plain (drop start lines))) behind
 
-  pub read_more : (o : Order) (more : List Order) → order_fault (lines_plain (take n rest)) ≡ None
-      → SayOrder (lines_plain (take n rest)) o → more ≡ orders ++ o ∷ []
-      → IsReadTo (lines_plain lines) more (lines_plain (drop (start + n) lines))
-  read_more o more sound says e =
-      subst₂ (λ ls os. IsReadTo (lines_plain lines) os ls) (sym others) (sym e)
-      (IsReadTo-more (lines_plain lines) orders (lines_plain (drop start lines)) is some o (ap order_fault (sym group) ∙ sound)
-      (subst (λ ls. SayOrder ls o) group says))
+  -- The lines of one more order.
+  pub grouped_more : (orders more : List (Bor (List Line))) (order : Bor (List Line)) → order.now ≡ take n rest → more ≡ orders ++ order ∷ []
+      → map (λ o. lines_plain o.now) orders ++ by_order (lines_plain (drop start lines)) ≡ by_order (lines_plain lines)
+      → map (λ o. lines_plain o.now) more ++ by_order (lines_plain (drop (start + n) lines)) ≡ by_order (lines_plain lines)
+  grouped_more orders more order here e is =
+      let left = by_order (lines_plain (drop (start + n) lines)) in
+      ap (λ os. map (λ o. lines_plain o.now) os ++ left) e
+      ∙ ap (λ os. os ++ left) (map-append (λ o. lines_plain o.now) orders (order ∷ []))
+      ∙ append_assoc (map (λ o. lines_plain o.now) orders) (lines_plain order.now ∷ []) left
+      ∙ ap (λ os. map (λ o. lines_plain o.now) orders ++ os)
+      (ap (λ ls. lines_plain ls ∷ left) here ∙ ap₂ (λ o ls. o ∷ by_order ls) group others ∙ sym (by_order-split (lines_plain (drop start lines)) some))
+      ∙ is
 
-  pub read_none : (error : OrdersError) → IsFaultIn (order_fault (lines_plain (take n rest))) error
-      → IsFaultIn (first_fault (by_order (lines_plain lines))) error
-  read_none error fault =
-      IsFaultIn-all (lines_plain lines) orders (lines_plain (drop start lines)) is some error
-      (subst (λ ls. IsFaultIn (order_fault ls) error) group fault)
+  module _ (orders : List Order) (is : IsReadTo (lines_plain lines) orders (lines_plain (drop start lines))) where
+    pub read_more : (o : Order) (more : List Order) → order_fault (lines_plain (take n rest)) ≡ None
+        → SayOrder (lines_plain (take n rest)) o → more ≡ orders ++ o ∷ []
+        → IsReadTo (lines_plain lines) more (lines_plain (drop (start + n) lines))
+    read_more o more sound says e =
+        subst₂ (λ ls os. IsReadTo (lines_plain lines) os ls) (sym others) (sym e)
+        (IsReadTo-more (lines_plain lines) orders (lines_plain (drop start lines)) is some o (ap order_fault (sym group) ∙ sound)
+        (subst (λ ls. SayOrder ls o) group says))
+
+    pub read_none : (error : OrdersError) → IsFaultIn (order_fault (lines_plain (take n rest))) error
+        → IsFaultIn (first_fault (by_order (lines_plain lines))) error
+    read_none error fault =
+        IsFaultIn-all (lines_plain lines) orders (lines_plain (drop start lines)) is some error
+        (subst (λ ls. IsFaultIn (order_fault ls) error) group fault)
 
 pub none_left : (lines : List Line) (start : ℕ) → length lines ≤ start → length (lines_plain (drop start lines)) ≡ 0
 none_left lines start end = ap (λ ls. length (lines_plain ls)) (drop_of_length-le lines end)
+
+-- No lines are left, so these are the orders.
+pub grouped_all : (lines : List Line) (start : ℕ) (orders : List (List PlainLine)) → length lines ≤ start
+    → orders ++ by_order (lines_plain (drop start lines)) ≡ by_order (lines_plain lines) → orders ≡ by_order (lines_plain lines)
+grouped_all lines start orders end is =
+    sym (append-nil orders) ∙ ap (λ ls. orders ++ by_order (lines_plain ls)) (sym (drop_of_length-le lines end)) ∙ is

@@ -5,7 +5,9 @@ use Rattle.x509_cert_parts.specs.Der.Grammar.{plain_option}
 use Rattle.cert_desk_orders.specs.declared.line.Line.{Line}
 use Rattle.cert_desk_orders.specs.declared.orders_error.OrdersError.{OrdersError}
 use Rattle.cert_desk_orders.specs.declared.orders_error.OrdersError.TheVariants as errors
+use Rattle.cert_desk_orders.specs.declared.wrong_lines.WrongLine.{WrongLine}
 use Rattle.cert_desk_orders.specs.OrdersFile.{PlainLine, has}
+use Rattle.cert_desk_orders.specs.Reasons.{PlainWrong}
 
 -- A line as its number, word and value.
 abbrev pub line_plain : Line → PlainLine
@@ -18,6 +20,10 @@ line_plain line = record {
 -- Lines as their numbers, words and values.
 abbrev pub lines_plain : List Line → List PlainLine
 lines_plain lines = map line_plain lines
+
+-- A wrong line as its number, word and reason.
+abbrev pub wrong_plain : WrongLine → PlainWrong
+wrong_plain wrong = record { number = wrong.number; word = wrong.word.now; why = wrong.why }
 
 -- The error of the parser, given the number of the wrong line.
 abbrev pub IsFaultIn : Option ℕ → OrdersError → Type 0

@@ -9,14 +9,14 @@ use crate::line_values::{key_of, length_of, octets_of};
 use std::alloc::{AllocError, Global};
 
 // Returns whether a word has no value.
-fn stands_alone(word: &str) -> bool
+pub(crate) fn stands_alone(word: &str) -> bool
     ensures { result ≡ stands_alone word.now }
 {
     word == "order" || word == "client" || word == "ocsp"
 }
 
 // Returns whether a value is allowed for a word.
-fn takes(alloc: Global, word: &str, value: &str) -> Result<bool, AllocError>
+pub(crate) fn takes(alloc: Global, word: &str, value: &str) -> Result<bool, AllocError>
     ensures { IfOk result (λ taken. taken ≡ takes word.now value.now) }
 {
     match word {
@@ -39,7 +39,7 @@ fn fits(alloc: Global, line: &Line<'_>) -> Result<bool, AllocError>
 }
 
 // Returns whether the word of a line occurs before, and may occur only once.
-fn is_repeated(before: &[Line<'_>], line: &Line<'_>) -> bool
+pub(crate) fn is_repeated(before: &[Line<'_>], line: &Line<'_>) -> bool
     ensures { result ≡ is_repeated (lines_plain before.now) (line_plain line.now) }
 {
     !line.has("dns") && stands(before, line.word)

@@ -10,10 +10,17 @@ mod order;
 mod ordering;
 mod orders_error;
 mod orders_file;
+mod reason_lines;
+mod reasons;
+mod wrong_lines;
 
+pub use line::Line;
 pub use order::Order;
 pub use orders_error::OrdersError;
 pub use orders_file::orders_in;
+pub use reason_lines::reason_line;
+pub use reasons::{line_at, wrong_line};
+pub use wrong_lines::{Why, WrongLine};
 
 /// The names of `x509_cert_parts` that the crates above use.
 pub mod cert_parts {

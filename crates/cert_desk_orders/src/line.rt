@@ -1,5 +1,5 @@
 //! The lines of an orders file.
-ghost use Rattle.std.specs.Prelude.{◌≡◌, map, IfOk};
+ghost use Rattle.std.specs.Prelude.{◌≡◌, find, map, IfOk};
 ghost use Rattle.x509_cert_parts.specs.Der.Grammar.{plain_option};
 ghost use Rattle.cert_desk_orders.specs.OrderReading.{line_plain, lines_plain};
 ghost use Rattle.cert_desk_orders.specs.OrdersFile.{value_if, value_of};
@@ -8,15 +8,15 @@ ghost use Rattle.cert_desk_orders.specs.OrdersFile.{has, line_of, lines_in, part
 use std::alloc::{AllocError, Global};
 use std::str;
 
-// A line that isn't empty.
+/// A line of an orders file that isn't empty.
 #[derive(Clone, Copy)]
-pub(crate) struct Line<'a> {
-    // The number of the line, counted from 1.
-    pub(crate) number: u64,
-    // The text before the first space. It is empty if the line isn't UTF-8.
-    pub(crate) word: &'a str,
-    // The text after the first space, if there is one.
-    pub(crate) value: Option<&'a str>,
+pub struct Line<'a> {
+    /// The number of the line, counted from 1.
+    pub number: u64,
+    /// The text before the first space. It is empty if the line isn't UTF-8.
+    pub word: &'a str,
+    /// The text after the first space, if there is one.
+    pub value: Option<&'a str>,
 }
 
 impl<'a> Line<'a> {
@@ -94,11 +94,18 @@ pub(crate) fn stands(lines: &[Line<'_>], word: &str) -> bool
     lines.iter().any(|line| line.has(word))
 }
 
+// Returns the first line with this word.
+pub(crate) fn find<'a>(lines: &[Line<'a>], word: &str) -> Option<Line<'a>>
+    ensures { plain_option line_plain result ≡ find (has word.now) (lines_plain lines.now) }
+{
+    lines.iter().find(|line| line.has(word)).copied()
+}
+
 // Returns the value of the first line with this word.
 pub(crate) fn value_of<'a>(lines: &[Line<'a>], word: &str) -> Option<&'a str>
     ensures { plain_option (λ value. value.now) result ≡ value_of word.now (lines_plain lines.now) }
 {
-    let Some(line) = lines.iter().find(|line| line.has(word)) else {
+    let Some(line) = find(lines, word) else {
         return None;
     };
     line.value

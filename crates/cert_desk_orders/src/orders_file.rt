@@ -1,5 +1,5 @@
 //! Parses orders files.
-ghost use Rattle.std.specs.Prelude.{◌≡◌, ◌<◌, ◌≤◌, length, IfErr, IfOk, None, OnOk};
+ghost use Rattle.std.specs.Prelude.{◌≡◌, ◌<◌, ◌≤◌, length, map, IfErr, IfOk, None, OnOk};
 ghost use Rattle.cert_desk_orders.specs.OrderReading.{IsFaultIn, lines_plain, order_len};
 ghost use Rattle.cert_desk_orders.specs.OrdersFile.{SayOrder, SayOrders, SaysOrders, by_order};
 ghost use Rattle.cert_desk_orders.specs.OrdersFile.{faulty_line, first_fault, order_fault};
@@ -9,7 +9,7 @@ use crate::line::{Line, lines_of};
 use crate::order::Order;
 use crate::ordering::order_of;
 use crate::orders_error::OrdersError;
-use std::alloc::Global;
+use std::alloc::{AllocError, Global};
 
 // Returns the number of lines of the first order.
 fn order_len(lines: &[Line<'_>]) -> usize
@@ -21,6 +21,25 @@ fn order_len(lines: &[Line<'_>]) -> usize
         Some(others) => others + 1,
         None => lines.len(),
     }
+}
+
+// Returns the lines of each order.
+pub(crate) fn grouped<'b, 'a>(
+    alloc: Global,
+    lines: &'b [Line<'a>],
+) -> Result<Vec<&'b [Line<'a>]>, AllocError>
+    ensures { IfOk result (λ orders. map (λ order. lines_plain order.now) orders.items
+        ≡ by_order (lines_plain lines.now)) }
+{
+    let mut orders = Vec::new(alloc);
+    let mut start = 0;
+    'orders: while start < lines.len() {
+        let rest = &lines[start..];
+        let length = order_len(rest);
+        orders.push(&rest[..length])?;
+        start += length;
+    }
+    Ok(orders)
 }
 
 // Parses one order.

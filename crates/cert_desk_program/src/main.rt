@@ -5,7 +5,7 @@
 //! - `cert_desk issue ORDERS` issues the chain that an orders file asks for.
 #![tactic(auto)]
 
-use cert_desk::{DigestJudge, ExitStatus, HostFiles, ToWrite, USAGE, obey, words_of};
+use cert_desk::{DigestJudge, ExitStatus, HostFiles, ToWrite, USAGE, obey_with_reasons, words_of};
 use std::io;
 use std::process::ExitCode;
 
@@ -20,7 +20,7 @@ fn run(rt: &HostRuntime) -> ExitStatus {
         Ok(words) => words,
         Err(status) => return status,
     };
-    obey(
+    obey_with_reasons(
         rt.alloc(),
         &HostFiles::new(rt, None),
         words.as_slice(),

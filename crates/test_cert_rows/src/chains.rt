@@ -13,7 +13,7 @@ use std::alloc::Global;
 /// Returns the chain that a run writes for a file, if it succeeds.
 fn stream_of(alloc: Global, file: &str) -> Result<Vec<u8>, Refusal> {
     let file = file_of(alloc, file)?;
-    let told = issues::run(alloc, "-/-/-", file.as_slice())?;
+    let told = issues::run(alloc, "-/-/-", false, file.as_slice())?;
     match told.status {
         0 => Ok(told.out),
         6 => Err(Refusal::Memory),

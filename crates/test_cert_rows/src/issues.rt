@@ -3,7 +3,7 @@
 use crate::files::file_of;
 use crate::refusal::Refusal;
 use crate::schedules::{Devices, Schedule};
-use cert_desk::{Order, orders_in, run_issue, run_orders};
+use cert_desk::{Order, orders_in, run_issue, run_orders, run_orders_with_reasons};
 use std::alloc::Global;
 use std::str;
 
@@ -16,19 +16,24 @@ pub struct Told {
 }
 
 /// Returns the output of a run on this file, whose input and two outputs move bytes by these
-/// schedules.
-pub fn run(alloc: Global, schedules: &str, file: &[u8]) -> Result<Told, Refusal> {
+/// schedules. The run may say why it issues nothing.
+pub fn run(alloc: Global, schedules: &str, says: bool, file: &[u8]) -> Result<Told, Refusal> {
     let Devices {
         input,
         output,
         errors,
     } = Devices::parse(alloc, schedules)?;
     let mut out_room = [0; 4096];
-    let mut err_room = [0; 64];
+    let mut err_room = [0; 192];
     let mut out = output.output(&mut out_room);
     let mut err = errors.output(&mut err_room);
     let mut input = input.input(file);
-    let status = run_orders(alloc, &mut input, &mut out, &mut err).code();
+    let status = if says {
+        run_orders_with_reasons(alloc, &mut input, &mut out, &mut err)
+    } else {
+        run_orders(alloc, &mut input, &mut out, &mut err)
+    };
+    let status = status.code();
     let out = out.written().to_vec(alloc)?;
     let err = err.written().to_vec(alloc)?;
     Ok(Told { status, out, err })
@@ -77,9 +82,9 @@ fn outputs_told(alloc: Global, status: u8, out: &[u8], err: &[u8]) -> Result<Str
     Ok(format!(in alloc; "{status} {issued:?} {complained:?}")?)
 }
 
-/// Returns the output of a run, in base 16.
-pub fn answer(alloc: Global, schedules: &str, file: &str) -> Result<String, Refusal> {
+/// Returns the output of a run, in base 16. The run may say why it issues nothing.
+pub fn answer(alloc: Global, schedules: &str, says: bool, file: &str) -> Result<String, Refusal> {
     let file = file_of(alloc, file)?;
-    let Told { status, out, err } = run(alloc, schedules, file.as_slice())?;
+    let Told { status, out, err } = run(alloc, schedules, says, file.as_slice())?;
     outputs_told(alloc, status, out.as_slice(), err.as_slice())
 }

@@ -68,10 +68,14 @@ fn answer_of_issue(alloc: Global, line: &str) -> Result<String, Refusal> {
     let (word, rest) = line.split_once(' ').ok_or(Refusal::Unread)?;
     match word {
         "read" => readings::answer(alloc, rest),
-        "run" => issues::answer(alloc, "-/-/-", rest),
+        "run" => issues::answer(alloc, "-/-/-", false, rest),
+        "why" => {
+            let (schedules, file) = rest.split_once(' ').ok_or(Refusal::Unread)?;
+            issues::answer(alloc, schedules, true, file)
+        }
         "pieces" => {
             let (schedules, file) = rest.split_once(' ').ok_or(Refusal::Unread)?;
-            issues::answer(alloc, schedules, file)
+            issues::answer(alloc, schedules, false, file)
         }
         "call" => {
             let (schedules, file) = rest.split_once(' ').ok_or(Refusal::Unread)?;

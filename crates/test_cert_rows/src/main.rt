@@ -21,6 +21,7 @@
 //! | `issue read FILE` | `ok N`: the number of orders of a file, and each of them; or the error |
 //! | `issue run FILE` | `STATUS OUTPUT ERRORS`: the output of a run of `issue`, in base 16 |
 //! | `issue pieces SCHEDULE/SCHEDULE/SCHEDULE FILE` | the same, where the input, the output and the error output move bytes by these schedules |
+//! | `issue why SCHEDULE/SCHEDULE/SCHEDULE FILE` | the same for a run that says why it issues nothing |
 //! | `issue call SCHEDULE/SCHEDULE FILE` | the same for the call for the orders of a file, where the output and the error output move bytes by these schedules |
 //! | `issue digest KEY HEX` | the signature of a signer of digests with this key over these bytes; `changed` if it signs differently with random bytes |
 //! | `issue audit SIGNERS LIMIT MOMENT PURPOSE FILE` | the verdict on the chain that is issued for the file's orders, with the digest verifier, or why none is issued |

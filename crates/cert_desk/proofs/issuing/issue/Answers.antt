@@ -8,7 +8,6 @@ use Rattle.cert_desk.specs.Chains.{HoldsOrders}
 use Rattle.cert_desk.specs.PlainOrders.{AreKeys, AreReady, orders_plain}
 use Rattle.cert_desk.specs.Refusals.{Refuses}
 use Rattle.cert_desk.proofs.AcceptedFronts.{all_accepted, are_keys, are_ready}
-use Rattle.cert_desk.specs.Issuable.{IsMemoryOrLong}
 use Rattle.cert_desk.proofs.OnlyMemory.{issuable_is_issued, only_long}
 use Rattle.cert_desk.proofs.issuing.issue.Goals as goal
 

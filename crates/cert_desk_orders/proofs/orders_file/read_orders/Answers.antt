@@ -13,8 +13,8 @@ pub returns-in_err-order-clause-refused : goal.returns-in_err-order-clause-refus
 returns-in_err-order-clause-refused c =
     let lines = c.args.lines.now in
     let p = err_from_is_err_and c.from_residual.result c.from_residual.ensures.1 in
-    rw (p.1, p.2) (read_none c.orders.orders.items lines c.orders.start c.order_len-length.result c.orders-test.true c.orders.invariant.1 _ (take_rest lines c.orders.start)
-    c.order_len-length.ensures.length c.in_err-order.field-0.0 c.in_err-order.ensures.refused)
+    rw (p.1, p.2) (read_none lines c.orders.start c.order_len-length.result c.orders-test.true _ (take_rest lines c.orders.start)
+    c.order_len-length.ensures.length c.orders.orders.items c.orders.invariant.1 c.in_err-order.field-0.0 c.in_err-order.ensures.refused)
 
 pub orders-preserved : goal.orders-preserved
 orders-preserved c =
@@ -23,8 +23,8 @@ orders-preserved c =
     let same = take_rest lines c.orders.start in
     let within = subst (λ ls. c.order_len-length.result ≤ length ls) same c.order_len-length.ensures.within in (
       omega (arith, rest, within, c.orders-test.true),
-      read_more c.orders.orders.items lines c.orders.start c.order_len-length.result c.orders-test.true c.orders.invariant.1 _ same
-          c.order_len-length.ensures.length c.in_ok-order.order c.push.new.self.items c.in_ok-order.ensures.sound c.in_ok-order.ensures.said c.in_ok-push.ensures.items,
+      read_more lines c.orders.start c.order_len-length.result c.orders-test.true _ same
+          c.order_len-length.ensures.length c.orders.orders.items c.orders.invariant.1 c.in_ok-order.order c.push.new.self.items c.in_ok-order.ensures.sound c.in_ok-order.ensures.said c.in_ok-push.ensures.items,
     )
 
 pub returns-clause-sound : goal.returns-clause-sound
