@@ -30,18 +30,19 @@ def changed(octets):
 LEAF, ROOT = encoding("server"), encoding("root")
 INTERMEDIATE = encoding("chain").removesuffix(LEAF)
 FORGED = changed(LEAF)
+TRUSTED = 'trusted calls=2 "CN=desk.example"'
 # A certificate with other names.
 UNRELATED = LEAF.replace(b"esk", b"usk")
 
 # The name of the test, the certificates of the file, and the expected status, lines of the output
 # and parts of the error output.
 CASES = [
-    ("leaf first", [LEAF, INTERMEDIATE], 0, ["trusted calls=2"], []),
-    ("the root at the end", [LEAF, INTERMEDIATE, ROOT], 0, ["trusted calls=2"],
+    ("leaf first", [LEAF, INTERMEDIATE], 0, [TRUSTED], []),
+    ("the root at the end", [LEAF, INTERMEDIATE, ROOT], 0, [TRUSTED],
      ["verify_pem.py: ignored certificate 3 (CN=Desk Root,O=Desk Example,C=US): certificate 2"
       " (CN=Desk Intermediate,O=Desk Example,C=US) was issued by the root"
       " CN=Desk Root,O=Desk Example,C=US\n"]),
-    ("two issuers of one name", [LEAF, INTERMEDIATE, ROOT, changed(ROOT)], 0, ["trusted calls=2"],
+    ("two issuers of one name", [LEAF, INTERMEDIATE, ROOT, changed(ROOT)], 0, [TRUSTED],
      ["ignored certificate 3 (CN=Desk Root,", "ignored certificate 4 (CN=Desk Root,"]),
     ("the leaf forged", [FORGED, INTERMEDIATE], 1, ["refused 1 WrongSignature calls=2"], []),
     ("the leaf forged, the root at the end", [FORGED, INTERMEDIATE, ROOT], 1,

@@ -8,6 +8,16 @@ import re
 import reader
 
 NULL = b"\x05\x00"
+# The types of values by their tags (X.680 8.4): strings of characters, and others.
+TEXTS = {
+    0x0C: "UTF8String", 0x12: "NumericString", 0x13: "PrintableString", 0x14: "TeletexString",
+    0x16: "IA5String", 0x1A: "VisibleString", 0x1B: "GeneralString", 0x1E: "BMPString",
+}
+TYPES = TEXTS | {
+    0x01: "BOOLEAN", 0x02: "INTEGER", 0x03: "BIT STRING", 0x04: "OCTET STRING", 0x05: "NULL",
+    0x06: "OBJECT IDENTIFIER", 0x0A: "ENUMERATED", 0x17: "UTCTime", 0x18: "GeneralizedTime",
+    0x30: "SEQUENCE", 0x31: "SET",
+}
 
 
 def length(size):

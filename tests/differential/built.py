@@ -4,6 +4,7 @@ one with every type of extension, and others with some. Each run makes new keys.
 import datetime
 import ipaddress
 import random
+from unicodedata import category
 
 from cryptography import x509
 from cryptography.hazmat.primitives import hashes
@@ -160,8 +161,9 @@ def name(is_every):
 
 
 def letters():
-    """Returns a certificate that has each character of Unicode in its names."""
-    text = "".join(map(chr, [*range(0xD800), *range(0xE000, 0x110000)]))
+    """Returns a certificate that has each character in its names that the Unicode of Python has."""
+    known = [letter for letter in map(chr, range(0x110000)) if category(letter) not in ("Cn", "Cs")]
+    text = "".join(known)
     parts = (text[at : at + 4096].encode() for at in range(0, len(text), 4096))
     names = [x509.OtherName(own(1), tlv(0x0C, part)) for part in parts]
     key = SIGNERS[-1].public_key()

@@ -3,8 +3,8 @@
 
     described.py TOOL [--built N] [--changed N]
 
-It describes the roots of ca-certificates, the files of the test vectors, and certificates, CRLs and
-CSRs with every extension: those that Python's `cryptography` builds (built.py), and those that
+It describes the roots of ca-certificates, the files of the test vectors, CSRs with keys on every
+curve of OpenSSL, and certificates, CRLs and CSRs with every extension: those that Python's `cryptography` builds (built.py), and those that
 OpenSSL built or that were put together byte by byte (described.txt). pyasn1 reads them by its
 modules of RFC 5280 and RFC 2986, and OpenSSL reads the keys. What they read becomes a document like
 that of `cert_tool describe --json`. If `cert_tool` names an object identifier, OpenSSL or
@@ -19,9 +19,11 @@ A difference is a line that only `cert_tool` has (`+`) or that it doesn't have (
 """
 
 import argparse
+import base64
 import collections
 import contextlib
 import difflib
+import functools
 import hashlib
 import ipaddress
 import json
@@ -44,7 +46,7 @@ from pyasn1.codec.der.decoder import decode
 from pyasn1.codec.der.encoder import encode
 from pyasn1.error import PyAsn1Error
 from pyasn1.type import char, univ, useful
-from pyasn1_modules import rfc2986, rfc5280
+from pyasn1_modules import rfc2986, rfc3779, rfc5280
 
 import built
 import der
@@ -52,7 +54,7 @@ import lines
 import mutated
 import reader
 import served
-from der import dotted, tlv
+from der import TEXTS, TYPES, dotted, tlv
 from tool import ROOTS, Tool, files
 
 # The names that `cert_tool` has for object identifiers, from RFC 5280 and related standards, and
@@ -62,6 +64,8 @@ NAMES = {
     "extKeyUsage": "extendedKeyUsage", "jurisdictionLocality": "jurisdictionLocalityName",
     "jurisdictionStateOrProvince": "jurisdictionStateOrProvinceName",
     "jurisdictionCountry": "jurisdictionCountryName", "userPrincipalName": "msUPN",
+    "ipAddrBlocks": "sbgp-ipAddrBlock", "autonomousSysIds": "sbgp-autonomousSysNum",
+    "ipAddrBlocks-v2": "sbgp-ipAddrBlockv2", "autonomousSysIds-v2": "sbgp-autonomousSysNumv2",
 }
 # The types of attributes that have a name in RFC 4514 3, and some more.
 SHORT = {
@@ -69,16 +73,6 @@ SHORT = {
     "2.5.4.8": "ST", "2.5.4.9": "STREET", "2.5.4.10": "O", "2.5.4.11": "OU",
     "2.5.4.17": "POSTALCODE", "2.5.4.42": "GN", "0.9.2342.19200300.100.1.25": "DC",
     "0.9.2342.19200300.100.1.1": "UID", "1.2.840.113549.1.9.1": "EMAILADDRESS",
-}
-# The types of values by their tags (X.680 8.4): strings of characters, and others.
-TEXTS = {
-    0x0C: "UTF8String", 0x12: "NumericString", 0x13: "PrintableString", 0x14: "TeletexString",
-    0x16: "IA5String", 0x1A: "VisibleString", 0x1B: "GeneralString", 0x1E: "BMPString",
-}
-TYPES = TEXTS | {
-    0x01: "BOOLEAN", 0x02: "INTEGER", 0x03: "BIT STRING", 0x04: "OCTET STRING", 0x05: "NULL",
-    0x06: "OBJECT IDENTIFIER", 0x0A: "ENUMERATED", 0x17: "UTCTime", 0x18: "GeneralizedTime",
-    0x30: "SEQUENCE", 0x31: "SET",
 }
 # The extensions that have members: the member of those whose content isn't a SEQUENCE of fields,
 # and their types in pyasn1.
@@ -123,7 +117,7 @@ def inside(content):
 def value(encoded):
     """Returns the members of a value of any type."""
     [(tag, content, _)] = der.values(encoded)
-    coding = {0x0C: "utf-8", 0x1E: "utf-16-be"}.get(tag, "ascii")
+    coding = {0x0C: "utf-8", 0x14: "latin-1", 0x1E: "utf-16-be"}.get(tag, "ascii")
     text = {"text": content.decode(coding)} if tag in TEXTS else {"octets": octets(content)}
     return {"type": TYPES[tag]} | text
 
@@ -188,13 +182,84 @@ def extension(of):
     found = {"id": kind, "critical": bool(of["critical"])}
     if kind in EXTENSIONS:
         of = decode(content, CONTENTS[kind])[0]
-        # DER has no zeros at the end of named bits (X.690 11.2.2).
-        if isinstance(of, rfc5280.KeyUsage) and not of.asInteger() & 1:
+        # DER has no zeros at the end of named bits (X.690 11.2.2), and pyasn1 accepts some BER.
+        has_zero = isinstance(of, rfc5280.KeyUsage) and not of.asInteger() & 1
+        if has_zero or encode(of) != content:
             return found | {"malformed": True, "octets": octets(content)}
         return found | ({EXTENSIONS[kind]: told(of)} if EXTENSIONS[kind] else told(of))
     if kind == LOGS:
         return found
+    if kind in RESOURCES:
+        return found | RESOURCES[kind](decode(content, CONTENTS[kind])[0])
     return found | {"octets": octets(content)} | value_in(content)
+
+
+# Extensions of RFC 3779, Microsoft and Netscape.
+
+
+def ranged(least, most):
+    return least if most is None else f"{least}-{most}"
+
+
+def addresses(family, of):
+    """Yields the texts of blocks of addresses, of which the bits that are left out are zeros, or
+    ones at the end of a range."""
+    size, make = {1: (32, ipaddress.IPv4Address), 2: (128, ipaddress.IPv6Address)}[family]
+
+    def told_as(bits, fill):
+        number = (bits.asInteger() if len(bits) else 0) << (size - len(bits))
+        return make(number | fill * ((1 << (size - len(bits))) - 1))
+
+    for each in of:
+        each = each.getComponent()
+        if isinstance(each, univ.BitString):
+            yield f"{told_as(each, 0)}/{len(each)}"
+        else:
+            yield f"{told_as(each['min'], 0)}-{told_as(each['max'], 1)}"
+
+
+def blocks(of):
+    listed = []
+    for each in of:
+        family, choice = bytes(each["addressFamily"]), each["ipAddressChoice"].getComponent()
+        block = {"addressFamily": f"IPv{4 if family[1] == 1 else 6}"}
+        block |= {"safi": family[2]} if len(family) > 2 else {}
+        block |= ({"inherit": True} if isinstance(choice, univ.Null)
+                  else {"addresses": list(addresses(family[1], choice))})
+        listed.append(block)
+    return {"addressBlocks": listed}
+
+
+def systems(of):
+    found = {}
+    for kind in ("asnum", "rdi"):
+        if of[kind].isValue:
+            choice = of[kind].getComponent()
+            found[kind] = ["inherit"] if isinstance(choice, univ.Null) else [
+                str(it) if isinstance(it, univ.Integer) else f"{it['min']}-{it['max']}"
+                for it in (each.getComponent() for each in choice)
+            ]
+    return found
+
+
+def template(of):
+    numbers = [int(each) for each in of[1:]]
+    versions = zip(("templateMajorVersion", "templateMinorVersion"), numbers)
+    return {"templateID": {"id": str(of[0])}} | dict(versions)
+
+
+TYPES_OF_NETSCAPE = ["SSL client", "SSL server", "S/MIME", "object signing", "reserved", "SSL CA",
+                     "S/MIME CA", "object signing CA"]
+RESOURCES = {
+    "1.3.6.1.5.5.7.1.7": blocks, "1.3.6.1.5.5.7.1.8": systems, "1.3.6.1.4.1.311.21.7": template,
+    "2.16.840.1.113730.1.1": lambda of: {
+        "types": [name for name, bit in zip(TYPES_OF_NETSCAPE, of) if bit]
+    },
+}
+CONTENTS |= {
+    "1.3.6.1.5.5.7.1.7": rfc3779.IPAddrBlocks(), "1.3.6.1.5.5.7.1.8": rfc3779.ASIdentifiers(),
+    "1.3.6.1.4.1.311.21.7": None, "2.16.840.1.113730.1.1": univ.BitString(),
+}
 
 
 def qualifier(of):
@@ -223,10 +288,20 @@ def attribute_of_request(of):
 # Keys and algorithms.
 
 
+# The algorithms whose parameters are printed with the key: EC and DSA.
+KEYS = ("1.2.840.10045.2.1", "1.2.840.10040.4.1")
+
+
 def algorithm(of):
-    """Returns an algorithm with the parameters of RSASSA-PSS (RFC 4055 3.1)."""
+    """Returns an algorithm with its parameters, and of RSASSA-PSS with what they say (RFC 4055
+    3.1). The NULL of known algorithms is left out."""
     found = {"id": str(of["algorithm"])}
-    if found["id"] == "1.2.840.113549.1.1.10" and of["parameters"].isValue:
+    if not of["parameters"].isValue or found["id"] in KEYS:
+        return found
+    if found["id"] != "1.2.840.113549.1.1.10":
+        is_null = bytes(of["parameters"]) == b"\5\0" and found["id"] in KNOWN
+        return found | ({} if is_null else {"parameters": value(bytes(of["parameters"]))})
+    if of["parameters"].isValue:
         inner = {tag & 0x1F: der.values(field) for tag, field in inside(bytes(of["parameters"]))}
         inner = {at: next(fields)[1] for at, fields in inner.items()}
         found["hashAlgorithm"] = parameter(inner.get(0), "SHA-1")
@@ -276,6 +351,18 @@ def curve(said, parameters):
     generator = octets(bytes.fromhex(said["Generator (uncompressed)"]))
     prime, order = (number_said(said[label]) for label in ("Prime", "Order"))
     return {"prime": prime, "a": a, "b": b, "generator": generator, "order": order}
+
+
+def curves():
+    """Has OpenSSL make a CSR with a key on each curve that it names, if it can sign with it."""
+    run = functools.partial(subprocess.run, capture_output=True)
+    said = run(["openssl", "ecparam", "-list_curves"], check=True).stdout.decode()
+    for name in re.findall(r"^ +([\w.-]+) *:", said, re.M):
+        made = run(["openssl", "ecparam", "-name", name, "-genkey", "-noout"]).stdout
+        words = ["openssl", "req", "-new", "-key", "/dev/stdin", "-subj", "/CN=a", "-outform", "DER"]
+        encoded = run(words, input=made).stdout
+        if encoded:
+            yield name, encoded
 
 
 def key(of):
@@ -383,6 +470,8 @@ def document(kind, encoded):
         key = encode(part["subjectPublicKeyInfo" if kind == "certificate" else "subjectPKInfo"])
         key_bits = inside(key)[1][1][1:]
         found |= digests("key", key) | {"key-bits-sha1": digests("key", key_bits)["key-sha1"]}
+        pin = hashlib.sha256(key).digest()
+        found["key-pin-sha256"] = base64.b64encode(pin).decode()
     return found | {"signatureAlgorithm": algorithm(by), "signatureValue": bits(signature)}
 
 
@@ -397,6 +486,8 @@ def known_names():
         names[found[3]].update(filter(None, found.groups()[:2]))
     for identifier, word in _OID_NAMES.items():
         names[identifier.dotted_string].add(word)
+    # szOID_ENROLL_CERTTYPE_EXTENSION ([MS-WCCE] 2.2.2.7.7)
+    names["1.3.6.1.4.1.311.20.2"].add("enrollCertType")
     return names
 
 
@@ -498,7 +589,7 @@ class Comparer:
             told, why, _ = self.compare_kind(kind, "changed", encoded)
             is_read = reader.spells(kind, encoded)
             self.counts["changed values taken"] += is_read
-            is_good = why[1].startswith(b"the octets are what they should be\n")
+            is_good = why[1].startswith(b"no error: ")
             wanted = (0, told[1], b"") if is_read else (2, b"", why[1])
             if told != wanted or is_good != is_read or why[0] != 0:
                 self.compare("changed values", encoded.hex(), [f"taken: {is_read}"], [str(told)])
@@ -513,6 +604,7 @@ def main():
     comparer = Comparer(given.tool)
     known = [*files().items(), *der.files_in(HERE / "described.txt"), *built.made(given.built)]
     known += [(path.name, der.encodings_of(path)[0]) for path in ROOTS.glob("*.crt")]
+    known += curves()
     for name, encoded in known:
         for kind in KINDS:
             if reader.spells(kind, encoded):

@@ -47,7 +47,11 @@ def value(of):
     if kind == "BMPString":
         return f"{kind} {wide(of['octets'].replace(':', ''))}"
     if kind in STRINGS:
-        return f"{kind} " + "".join("\\" + pair for pair in of["octets"].split(":"))
+        is_kept = "UTF8String" != kind
+        return f"{kind} " + "".join(
+            plain(chr(it)) if is_kept and it < 0x80 else f"\\{it:02X}"
+            for it in bytes.fromhex(of["octets"].replace(":", ""))
+        )
     return f"{kind}, octets {of['octets']}"
 
 
@@ -85,7 +89,7 @@ def algorithm(word):
     def heading(of):
         if "default" in of:
             return f"{word} {of['default']} by default"
-        inner = f" with {identifier(of['parameters'])}" if "parameters" in of else ""
+        inner = f" with {identifier(of['parameters'])}" if "id" in of.get("parameters", ()) else ""
         return f"{word} {identifier(of)}{inner}" if "id" in of else word
 
     return headed(heading)
@@ -132,8 +136,22 @@ def timestamp(of):
 
 def curve(of):
     if "id" in of or "type" in of:
-        return [f"curve {value(of)}"]
+        return [f"curve {value(of)}", *(["  malformed"] if "malformed" in of else [])]
     return ["curve laid down by its parameters", *indented(members(of))]
+
+
+def block(of):
+    """Returns the lines of a block of addresses."""
+    if "addressFamily" not in of:
+        return [value(of)]
+    safi = f" SAFI {of['safi']}" if "safi" in of else ""
+    inherit = " inherit" if "inherit" in of else ""
+    items = (each if isinstance(each, str) else "malformed" for each in of.get("addresses", []))
+    return [f"{of['addressFamily']}{safi}{inherit}", *indented(items)]
+
+
+def systems(word):
+    return each(lambda of: [f"{word} {of}" if isinstance(of, str) else "malformed"])
 
 
 def extension_heading(of):
@@ -158,6 +176,8 @@ LINES = {
     "onlyContainsCACerts": "CA certificates alone",
     "onlyContainsAttributeCerts": "attribute certificates alone",
     "indirectCRL": "certificates of other issuers too",
+    "unusedBits": "unused bits {}", "unread": "not read here: {}",
+    "templateMajorVersion": "major version {}", "templateMinorVersion": "minor version {}",
     "cA": lambda of: [f"authority {'yes' if of else 'no'}"],
     "nameRelativeToCRLIssuer": lambda of: [f"below the issuer {shown(of)}"],
     "value": lambda of: [value(of)],
@@ -181,7 +201,13 @@ LINES = {
     "hashAlgorithm": algorithm("digest"),
     "maskGenAlgorithm": algorithm("mask"),
     "curve": curve,
+    "parameters": lambda of: [f"parameters {value(of)}"] if "type" in of else [],
+    "templateID": lambda of: [f"template {identifier(of)}"],
+    "addressBlocks": each(block),
+    "asnum": systems("AS"),
+    "rdi": systems("routing domain"),
     "uses": list,
+    "types": list,
     "purposes": each(lambda of: [identifier(of)]),
     "features": each(lambda of: [FEATURES.get(of, str(of))]),
     "mappings": each(mapping),
@@ -209,10 +235,9 @@ LINES |= {
     key: key + " {}"
     for key in "modulus exponent point p q g public prime a b generator order".split()
     + [f"{of}-sha{size}" for of in ("certificate", "list", "request", "key") for size in (1, 256)]
-    + ["key-bits-sha1"]
+    + ["key-bits-sha1", "key-pin-sha256"]
 }
-LINES |= {f"malformed{part}": "malformed"
-          for part in ("", "Parameters", "Field", "Coefficients", "Value")}
+LINES |= dict.fromkeys(["malformed", "malformedParameters"], "malformed")
 
 
 # What `explain` finds.
@@ -227,11 +252,21 @@ def section(of):
     return f" ({of['section']})" if "section" in of else ""
 
 
+def where(of):
+    return f"  {of['identifier']}: {of['path']} ({place(of)})"
+
+
 def remark(of):
     words = f"remark: {shown(of['remark'])}{section(of)}"
     if "len" in of:
-        return [f"{words}: IP address of {of['len']} octets"]
-    return list(after(f"{words}: ", members(of))) or [words]
+        return [f"{words}: IP address of {of['len']} octets", where(of)]
+    if "policy" in of:
+        return [f"{words}: {identifier(of['policy'])}", where(of)]
+    return [*(list(after(f"{words}: ", members(of))) or [words]), where(of)]
+
+
+def finding(of):
+    return [f"{of['finding']}{section(of)}", *([where(of)] if "identifier" in of else [])]
 
 
 def broken_rule(of):
@@ -252,7 +287,13 @@ def fault(of):
         yield f"  {of['cut']}"
     if of.get("expected"):
         typed = [it["part"] + (f" ({it['type']})" if "type" in it else "") for it in of["expected"]]
-        yield f"  there may stand {', '.join(typed)}"
+        yield f"  expected: {', '.join(typed)}"
+    if "hint" in of:
+        yield f"  {of['hint']}"
+
+
+def stream_fault(of):
+    yield f"certificate {of['certificate']}, octet {of['octet']}: {of['fault']}"
     if "hint" in of:
         yield f"  {of['hint']}"
 
@@ -265,16 +306,17 @@ def anchor(of):
 
 # The lines of a finding, by the first of these members that it has.
 FINDINGS = {
-    "finding": lambda of: [of["finding"]],
+    "finding": finding,
     "remark": remark,
     "rule": broken_rule,
     "findings": certificate,
     "path": fault,
-    "certificate": lambda of: ["certificate {certificate}, octet {octet}: {fault}".format(**of)],
-    "certificates": lambda of: [f"certificates: {of['certificates']}, each whole"],
-    "anchors": lambda of: [f"anchors: {of['anchors']}, each with a name and a key"],
+    "certificate": stream_fault,
+    "certificates": lambda of: [f"certificates: {of['certificates']}, without errors"],
+    "anchors": lambda of: [f"trust anchors: {of['anchors']}, each with a name and a key"],
     "fault": lambda of: [f"anchor at octet {of['octet']}: {of['fault']}"],
     "octet": anchor,
+    "unjudged": lambda of: [f"not judged: {of['unjudged']}"],
 }
 
 
@@ -283,9 +325,22 @@ def explained(document):
         yield from next(lines for key, lines in FINDINGS.items() if key in of)(of)
 
 
+def quoted(text):
+    """A string of JSON in which every character is an escape that isn't one of ASCII."""
+    octets = text.encode("utf-16-be")
+    units = [octets[at : at + 2].hex() for at in range(0, len(octets), 2)]
+    plain = [chr(int(it, 16)) for it in units]
+    return '"' + "".join(
+        it if " " <= it <= "~" and it not in '"\\' else f"\\u{unit}"
+        for it, unit in zip(plain, units)
+    ) + '"'
+
+
 def verdict(of):
     words = [str(of[key]) for key in ("verdict", "place", "offset", "rule", "kind") if key in of]
-    return [" ".join(words) + (f" calls={of['calls']}" if "calls" in of else "")]
+    words += [f"calls={of['calls']}"] if "calls" in of else []
+    words += [quoted(of["endEntity"]["subject"])] if "endEntity" in of else []
+    return [" ".join(words), *([f"ends {of['ends']}"] if "ends" in of else [])]
 
 
 # The function that makes the lines of a document, by the command that writes it.

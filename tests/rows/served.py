@@ -23,6 +23,9 @@ sys.path.insert(0, str(pathlib.Path(__file__).resolve().parents[1]))
 
 from tool import CRATE, DATA, Tool, answer, files, frame, request
 
+# The error output for a request without arguments.
+NO_REQUEST = b"the request doesn't begin with a frame of arguments in UTF-8\n"
+
 # Names of files, and the shell word that a hint prints for each, or `None` if it prints none.
 HINTED = [
     ("$(id)`id`.der", "'$(id)`id`.der'"),
@@ -85,7 +88,7 @@ def run_on():
     answers = [answer(*told) for _, _, told in asked]
     # No arguments; a file that isn't sent; the size of a frame without the frame.
     requests += [frame(b""), request(["split", "chain.der"], {"none.der": b""})]
-    answers += [answer(4, b"", b""), answer(5, b"", b'cannot open "chain.der"\n')]
+    answers += [answer(4, b"", NO_REQUEST), answer(5, b"", b'cannot open "chain.der"\n')]
     requests.append((100).to_bytes(4, "big") + b"cut")
     return {"stdin": b"".join(requests), "stdout": b"".join(answers)}
 

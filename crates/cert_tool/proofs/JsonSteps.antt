@@ -1,4 +1,4 @@
--- A text in a string of JSON, character by character.
+-- The text of a JSON string, extended character by character.
 use Rattle.std.proofs.Common.{◌≡◌, ℕ, List, [], ◌++◌, length, IsUtf8, chars, encode_utf8, flat_map, ap, ◌∙◌}
 use Rattle.std.proofs.lemmas.List.{nil_from_length}
 use Rattle.std.proofs.lemmas.Str.{chars_past_char, chars-nil}

@@ -1,6 +1,6 @@
 mod SplitLaws
 mod JsonSteps
-mod PassedLaws
-mod ToldLaws
-mod SentLaws
+mod DescribedStreamLaws
+mod ReportLaws
+mod SentInputLaws
 mod ServingLaws

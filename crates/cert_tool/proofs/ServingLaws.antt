@@ -1,42 +1,40 @@
--- Requests that are reported apart, their words, and what was returned so far.
-use Rattle.std.proofs.Common.{◌≡◌, ℕ, ◌<◌, ◌^◌, ◌≤◌, ◌⊎◌, inl, inr, Bool, true, false, List, ◌++◌, length, map, sym, ap, subst, ◌∙◌}
+-- Requests, their arguments, and the answers that were written so far.
+use Rattle.std.proofs.Common.{◌≡◌, ℕ, ◌<◌, ◌^◌, ◌≤◌, ◌⊎◌, inl, inr, Bool, true, false, List, ◌++◌, length, map, sym, subst, ◌∙◌}
 use Rattle.std.proofs.lemmas.Bool.{false≢true}
 use Rattle.std.specs.Prelude.{IsUtf8}
 use Rattle.std.specs.List.{list_any}
-use Rattle.cert_tool_explain.specs.DeskIo.declared.exit_status.ExitStatus.{ExitStatus}
+use Rattle.cert_tool.specs.declared.status.Status.{Status}
 use Rattle.cert_tool_explain.specs.DeskIo.Devices.{Device, sink, source}
 use Rattle.cert_tool_explain.specs.DeskIo.NamedInputs.{Inputs}
 use Rattle.cert_tool_explain.specs.DeskIo.declared.frame_error.FrameError.{FrameError}
 use Rattle.cert_tool_explain.specs.DeskIo.declared.frame_error.FrameError.TheVariants as errors
 use Rattle.cert_tool_explain.specs.DeskIo.Frames.{frame}
-use Rattle.cert_tool.proofs.SentLaws.{same_content}
-use Rattle.cert_tool.proofs.ToldLaws.{any_map}
-use Rattle.cert_tool.specs.TaskRuns.{Clock, IsObeyed, asks_of_program}
-use Rattle.cert_tool.specs.Serving.{AreReplies, ComesTo, HasNoReply, IsNextServed, IsRequest, more, words_in}
+use Rattle.cert_tool.proofs.SentInputLaws.{same_content}
+use Rattle.cert_tool.proofs.ReportLaws.{any_map}
+use Rattle.cert_tool.specs.TaskRuns.{Clock, AreArgumentsRun, is_help_or_version}
+use Rattle.cert_tool.specs.Serving.{AreReplies, HasOutcome, HasNoReply, IsNextServed, IsRequest, more}
 
--- bytes whose text isn't UTF-8 aren't a request
+-- Bytes whose text isn't UTF-8 aren't a request.
 pub no_request : (octets text parts : List ℕ) → octets ≡ frame text ++ parts → length text < 2 ^ 32 → (IsUtf8 text → ⊥) → (other : List ℕ) → (behind : List ℕ) → IsRequest octets other behind → ⊥
 no_request octets text parts begins short faulty other behind is =
     faulty (subst IsUtf8 (same_content other text behind parts is.1 short (sym is.0 ∙ begins)) is.2)
 
--- what is done for words is done for the lines that they are
-pub obeyed : {A : Type 0} (f : A → List ℕ) (tells : Clock) (i : Inputs) (out err : Device) (words : List A) (text : List ℕ) (status : ExitStatus) → map f words ≡ words_in text → IsObeyed tells i out err (map f words) (list_any (λ word. asks_of_program (f word)) words) status → IsObeyed tells i out err (words_in text) (list_any asks_of_program (words_in text)) status
-obeyed f tells i out err words text status are is =
-    let asks : list_any (λ word. asks_of_program (f word)) words ≡ list_any asks_of_program (words_in text) = any_map f asks_of_program words ∙ ap (list_any asks_of_program) are in
-    subst (λ (b : Bool). IsObeyed tells i out err (words_in text) b status) asks
-    (subst (λ (ws : List (List ℕ)). IsObeyed tells i out err ws (list_any (λ word. asks_of_program (f word)) words) status) are is)
+-- The effect of the arguments, with the test for help over their abstract values.
+pub run_once : {A : Type 0} (f : A → List ℕ) (tells : Clock) (i : Inputs) (out err : Device) (words : List A) (status : Status) → AreArgumentsRun tells i out err (map f words) (list_any (λ word. is_help_or_version (f word)) words) status → AreArgumentsRun tells i out err (map f words) (list_any is_help_or_version (map f words)) status
+run_once f tells i out err words status is =
+    subst (λ (b : Bool). AreArgumentsRun tells i out err (map f words) b status) (any_map f is_help_or_version words) is
 
--- bytes that come to outputs which aren't framed have no reply
-pub no_reply : (tells : Clock) (octets : List ℕ) (status : ExitStatus) (output others : List ℕ) → ComesTo tells octets status output others → (error : FrameError) → ((error ≡ errors.TooLong) × ((2 ^ 32 ≤ length output) ⊎ (2 ^ 32 ≤ length others))) ⊎ (error ≡ errors.OutOfMemory) → HasNoReply tells octets error
+-- If an output of the run is too long for a frame, there is no answer.
+pub no_reply : (tells : Clock) (octets : List ℕ) (status : Status) (output others : List ℕ) → HasOutcome tells octets status output others → (error : FrameError) → ((error ≡ errors.TooLong) × ((2 ^ 32 ≤ length output) ⊎ (2 ^ 32 ≤ length others))) ⊎ (error ≡ errors.OutOfMemory) → HasNoReply tells octets error
 no_reply tells octets status output others comes error (inl is) = subst (HasNoReply tells octets) (sym is.0) (status, output, others, comes, is.1)
 no_reply tells octets status output others comes error (inr is) = subst (HasNoReply tells octets) (sym is) tt
 
 module _ {S T : Type 0} (tells : Clock) (takes : S → List ℕ → S → Type 0) (is_ended : S → Type 0) (failures : S → ℕ) (gives : T → List ℕ → T → Type 0) (lost : T → ℕ) where
-  -- replies to the frames that were read went out, in turn
+  -- The answers to the frames that were read were written in order.
   abbrev pub SoFar : S → S → T → T → Type 0
   SoFar a b x y = (asked : List ℕ) × (answered : List ℕ) × AreReplies tells asked answered × takes a asked b × (failures b ≡ failures a) × gives x answered y × (lost y ≡ lost x)
 
-  -- the reply to a next frame after those so far
+  -- One more frame is answered.
   pub one_more : ((a b c : S) (first second : List ℕ) → takes a first b → takes b second c → takes a (first ++ second) c) → ((a b c : T) (first second : List ℕ) → gives a first b → gives b second c → gives a (first ++ second) c)
       → (a b c : S) (x y z : T) (goes_on : Bool) → SoFar a b x y → IsNextServed tells (source takes is_ended failures b c) (sink gives lost y z) goes_on → goes_on ≡ true → SoFar a c x z
   one_more in_turn out_in_turn a b c x y z true so_far next is = (
@@ -50,7 +48,7 @@ module _ {S T : Type 0} (tells : Clock) (takes : S → List ℕ → S → Type 0
   )
   one_more in_turn out_in_turn a b c x y z false so_far next is = absurd (false≢true is)
 
-  -- the input ended before a next one
+  -- The input ended before another frame.
   pub ended : (b c : S) (y z : T) (goes_on : Bool) → IsNextServed tells (source takes is_ended failures b c) (sink gives lost y z) goes_on → goes_on ≡ false → IsNextServed tells (source takes is_ended failures b c) (sink gives lost y z) false
   ended b c y z false next is = next
   ended b c y z true next is = absurd (false≢true (sym is))

@@ -1,4 +1,4 @@
--- Certificates, one after another.
+-- The certificates of a stream in reverse order.
 use Rattle.std.proofs.Common.{◌≡◌, ℕ, zero, suc, ◌+◌, ◌-◌, ◌<◌, List, [], ◌∷◌, ◌++◌, Some, drop, slice_get, unwrap_or, arith, ap, sym, ◌∙◌}
 use Rattle.cert_tool_explain.specs.DeskBundle.declared.entry.Entry.{Entry}
 use Rattle.cert_tool_explain.specs.Oid.Bound.{Bound}
@@ -16,7 +16,7 @@ drop_here [] (suc n) c e = absurd cc
 drop_here (x ∷ xs) zero c e = ap (λ (y : PlainCertificate). y ∷ xs) (some_is x c e)
 drop_here (x ∷ xs) (suc n) c e = drop_here xs n c e
 
--- one more at the end of what is turned round
+-- One more certificate is added at the end.
 pub reversed_more : (cs : List PlainCertificate) (left : ℕ) (e : Entry) (octets : List ℕ) → 0 < left → IsEntry Bound cs (left - 1) e
     → octets ≡ reversed (drop left cs) → octets ++ e.octets.now ≡ reversed (drop (left - 1) cs)
 reversed_more cs zero e octets h is so_far = absurd (omega arith)

@@ -22,10 +22,11 @@ abbrev pub help_of : List (List ℕ) → List ℕ
 help_of [] = USAGE.now
 help_of (word ∷ words) = unwrap_or (help_for word) (help_of words)
 
+-- The argument asks for the version.
 abbrev pub is_version : List ℕ → Bool
 is_version word = bytes_eq word (codes "--version")
 
--- The answer to arguments that ask for help or for the version.
+-- The output for arguments that ask for help or for the version.
 abbrev pub program_text : List (List ℕ) → List ℕ
 program_text words =
     if list_any is_version words then VERSION.now else help_of words ++ ARGUMENTS.now

@@ -1,2 +1,2 @@
--- Definitions of other crates that attributes of this one unfold.
+-- Definitions of other crates that the contracts of this crate unfold.
 unfoldable pub use Rattle.cert_tool_explain.specs.DeskChecking.Arguments.{IsNumber}

@@ -1,4 +1,4 @@
--- What runs over the certificates of a stream write.
+-- The outputs of `split` and `reverse`.
 use Rattle.std.specs.Prelude.{◌≡◌, ◌≢◌, ℕ, zero, suc, ◌+◌, ◌⊎◌, List, [], ◌∷◌, ◌++◌, length, codes}
 use Rattle.std.specs.Prelude.{decimal, Option, Some, None, slice_get, Bool, true, false, ◌==◌}
 use Rattle.std.specs.Prelude.{if◌then◌else◌}
@@ -16,61 +16,65 @@ use Rattle.cert_tool_explain.specs.CertNames.PlainTexts.{name_text}
 use Rattle.cert_tool_explain.specs.DeskBundle.Chains.{offset_at}
 use Rattle.cert_tool_explain.specs.DeskBundle.Streams.{Kept}
 use Rattle.cert_tool.specs.JsonTexts.{escaped_text, place_object}
-use Rattle.cert_tool.specs.Stops.{IsStopTold, stop_of}
+use Rattle.cert_tool.specs.EarlyEnds.{IsOutcomeReported, stop_of}
 
--- where the certificate c at a place stands
+-- The line of the certificate c at an index: the index, the offset and the number of bytes.
 abbrev pub place_line : List PlainCertificate → ℕ → PlainCertificate → List ℕ
 place_line cs place c =
     decimal place ++ codes " " ++ decimal (offset_at Bound cs place) ++ codes " "
     ++ decimal (length (certificate_octets Bound c)) ++ codes "\n"
 
--- a line for each of the first so many
+-- The lines of the first certificates, whose number is given.
 abbrev pub places_below : List PlainCertificate → ℕ → List ℕ
 places_below cs zero = []
 places_below cs (suc place) =
     places_below cs place ++ option_map_or (place_line cs place) (slice_get cs place) []
 
+-- The lines of all certificates.
 abbrev pub place_lines : List PlainCertificate → List ℕ
 place_lines cs = places_below cs (length cs)
 
--- where the certificate c at a place stands, and whose it is, as an object of JSON (RFC 8259)
+-- The JSON object (RFC 8259) of the certificate c at an index.
 abbrev pub place_json : List PlainCertificate → ℕ → PlainCertificate → List ℕ
 place_json cs place c =
     place_object place (offset_at Bound cs place) (length (certificate_octets Bound c))
     (escaped_text (name_text (subject c)))
 
+-- The JSON object of the certificate at an index.
 abbrev pub json_at : List PlainCertificate → ℕ → List ℕ
 json_at cs place = option_map_or (place_json cs place) (slice_get cs place) []
 
+-- The comma before the object of a certificate, which the first one doesn't have.
 abbrev pub comma_before : ℕ → List ℕ
 comma_before place = if place == 0 then [] else codes ","
 
--- the array of the first so many, without its end
-
+-- The JSON array of the first certificates, whose number is given, without its closing bracket.
 abbrev pub json_places_below : List PlainCertificate → ℕ → List ℕ
 json_places_below cs zero = codes "["
 json_places_below cs (suc place) =
     json_places_below cs place ++ comma_before place ++ json_at cs place
 
--- where the certificates stand, as JSON or in lines
+-- The list of the certificates, as JSON or as lines.
 abbrev pub places_text : Bool → List PlainCertificate → List ℕ
 places_text true cs = json_places_below cs (length cs) ++ codes "]\n"
 places_text false cs = place_lines cs
 
--- the bytes of the certificates, the last one first
+-- The bytes of the certificates, the last one first.
 abbrev pub reversed : List PlainCertificate → List ℕ
 reversed [] = []
 reversed (c ∷ cs) = reversed cs ++ certificate_octets Bound c
 
+-- The message for an index that no certificate has.
 abbrev pub no_place_line : List ℕ
 no_place_line = codes "no certificate has that index\n"
 
--- what ended the stream early is reported, if it did
-abbrev pub IsEndTold : Device → Option Outcome → ExitStatus → Type 0
-IsEndTold err None answer = Untouched err × (answer ≡ statuses.Done)
-IsEndTold err (Some outcome) answer = IsStopTold err outcome answer
+-- The error output says what ended the stream early, if anything did.
+abbrev pub IsEarlyEndReported : Device → Option Outcome → ExitStatus → Type 0
+IsEarlyEndReported err None answer = Untouched err × (answer ≡ statuses.Done)
+IsEarlyEndReported err (Some outcome) answer = IsOutcomeReported err outcome answer
 
--- Where all certificates stand that were read goes out, and then what ended the stream is reported.
+-- The list of the certificates that were read is written, and then it is reported what ended the
+-- stream early. If memory runs out or the write fails, only that is reported.
 abbrev pub IsListed : Bool → Device → Device → Kept → ExitStatus → Type 0
 IsListed json out err b answer =
     (Untouched out × IsMemoryTold err answer)
@@ -78,31 +82,32 @@ IsListed json out err b answer =
     × IsAnswer out (record err { new = between }) (places_text json b.certificates) statuses.Done
     first
     × (((first ≢ statuses.Done) × (answer ≡ first) × Untouched (record err { old = between }))
-    ⊎ ((first ≡ statuses.Done) × IsEndTold (record err { old = between }) (stop_of b) answer)))
+    ⊎ ((first ≡ statuses.Done) × IsEarlyEndReported (record err { old = between }) (stop_of b) answer)))
 
--- The bytes of this certificate go out; where there is none, what ended the stream is reported, or
--- that there is none.
+-- The bytes of the certificate are written. If there is no certificate at the index, it is reported
+-- what ended the stream, or that no certificate has the index.
 abbrev pub IsTakenAt : Device → Device → Option Outcome → Option PlainCertificate → ExitStatus
     → Type 0
 IsTakenAt out err stop (Some c) answer =
     IsAnswer out err (certificate_octets Bound c) statuses.Done answer
-IsTakenAt out err (Some outcome) None answer = Untouched out × IsStopTold err outcome answer
+IsTakenAt out err (Some outcome) None answer = Untouched out × IsOutcomeReported err outcome answer
 IsTakenAt out err None None answer = Untouched out
     × IsComplaint err no_place_line statuses.Arguments answer
 
--- of the certificate at a place
+-- The bytes of the certificate at an index are written, or the reason why there is none is
+-- reported.
 abbrev pub IsTaken : Device → Device → Kept → ℕ → ExitStatus → Type 0
 IsTaken out err b place answer = IsTakenAt out err (stop_of b) (slice_get b.certificates place)
     answer
 
--- The bytes of these certificates go out, the last one first; where something ended the stream,
--- that is reported in their place.
+-- The bytes of the certificates are written, the last one first. If an error ended the stream, only
+-- the error is reported.
 abbrev pub IsReversedBy : Device → Device → Option Outcome → List PlainCertificate → ExitStatus
     → Type 0
-IsReversedBy out err (Some outcome) cs answer = Untouched out × IsStopTold err outcome answer
+IsReversedBy out err (Some outcome) cs answer = Untouched out × IsOutcomeReported err outcome answer
 IsReversedBy out err None cs answer = IsAnswer out err (reversed cs) statuses.Done answer
     ⊎ (Untouched out × IsMemoryTold err answer)
 
--- of a whole chain
+-- The certificates of a bundle are written, the last one first, if it is a complete chain.
 abbrev pub IsReversed : Device → Device → Kept → ExitStatus → Type 0
 IsReversed out err b answer = IsReversedBy out err (stop_of b) b.certificates answer

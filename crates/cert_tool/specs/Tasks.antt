@@ -1,4 +1,4 @@
--- What the words of `cert_tool` ask for.
+-- The tasks that the arguments of `cert_tool` ask for.
 use Rattle.std.specs.Prelude.{◌≡◌, ◌≢◌, ℕ, ◌≤◌, ◌<◌, ◌^◌, ◌⊎◌, List, [], ◌∷◌, Bool, true, false}
 use Rattle.std.specs.Prelude.{◌&&◌, ◌||◌, codes, bytes_eq, is_ok, is_some, unwrap_or, if◌then◌else◌}
 use Rattle.std.specs.Prelude.{IsSome, IsTrue, Option, Some, None, option_map, Ok, Err}
@@ -9,12 +9,14 @@ use Rattle.cert_tool_explain.specs.Der.Dates.{Civil, is_civil}
 use Rattle.cert_tool_explain.specs.Types.DateTexts.{date_text}
 use Rattle.cert_tool_explain.specs.Types.Seconds.{last_second, unix_seconds}
 use Rattle.cert_tool_explain.specs.DeskChecking.Arguments.{IsNumber}
-use Rattle.cert_tool.specs.declared.given.Key.{Key}
-use Rattle.cert_tool.specs.declared.given.Key.TheVariants as keys
+use Rattle.cert_tool_limits.specs.Hosts.declared.host.Host.{Host}
+use Rattle.cert_tool_limits.specs.Hosts.Hosts.{IsHost}
+use Rattle.cert_tool.specs.declared.parsed_arguments.Key.{Key}
+use Rattle.cert_tool.specs.declared.parsed_arguments.Key.TheVariants as keys
 use Rattle.cert_tool_explain.specs.declared.kind.Kind.{Kind}
 use Rattle.cert_tool_explain.specs.declared.kind.Kind.TheVariants as kinds
-use Rattle.cert_tool.specs.declared.arguments.Moment.{Moment}
-use Rattle.cert_tool.specs.declared.arguments.Moment.TheVariants as moments
+use Rattle.cert_tool.specs.declared.option_values.Moment.{Moment}
+use Rattle.cert_tool.specs.declared.option_values.Moment.TheVariants as moments
 use Rattle.cert_tool.specs.declared.tasks.Command.{Command}
 use Rattle.cert_tool.specs.declared.tasks.Command.TheVariants as commands
 use Rattle.cert_tool.specs.declared.tasks.Need.{Need}
@@ -22,9 +24,9 @@ use Rattle.cert_tool.specs.declared.tasks.Need.TheVariants as needs
 use Rattle.cert_tool.specs.declared.tasks.Misuse.{Misuse}
 use Rattle.cert_tool.specs.declared.tasks.Misuse.TheVariants as faults
 use Rattle.cert_tool.specs.declared.tasks.Task.{Task}
-use Rattle.cert_tool.specs.Words.{PlainGiven, value_of, given_in, fault_plain}
+use Rattle.cert_tool.specs.ParsedArguments.{PlainArguments, value_of, parse_arguments, error_plain}
 
--- the commands: of a word, or of a word and what it is of
+-- The kind with this name.
 abbrev pub kind_of : List ℕ → Option Kind
 kind_of word =
     if bytes_eq word (codes "certificate") then Some kinds.Certificate
@@ -32,6 +34,7 @@ kind_of word =
     else if bytes_eq word (codes "request") then Some kinds.Request
     else None
 
+-- The command of this one word.
 abbrev pub of_word : List ℕ → Option Command
 of_word word =
     if bytes_eq word (codes "questions") then Some commands.Questions
@@ -40,11 +43,13 @@ of_word word =
     else if bytes_eq word (codes "reverse") then Some commands.Reverse
     else None
 
+-- The `describe` command for a kind.
 abbrev pub of_described : List ℕ → Option Command
 of_described kind =
     if bytes_eq kind (codes "stream") then Some commands.DescribeStream
     else option_map commands.Describe (kind_of kind)
 
+-- The `explain` command for a kind.
 abbrev pub of_explained : List ℕ → Option Command
 of_explained kind =
     if bytes_eq kind (codes "chain") then Some commands.ExplainChain
@@ -52,39 +57,44 @@ of_explained kind =
     else if bytes_eq kind (codes "anchors") then Some commands.ExplainAnchors
     else option_map commands.Explain (kind_of kind)
 
+-- The command of two words.
 abbrev pub of_words : List ℕ → List ℕ → Option Command
 of_words word kind =
     if bytes_eq word (codes "describe") then of_described kind
     else if bytes_eq word (codes "explain") then of_explained kind
     else None
 
--- the command that the words between options name, and the file that follows it
+-- A command with its file.
 abbrev pub with_file : Option Command → List ℕ → Option (Command × List ℕ)
 with_file command file = option_map (λ c. (c, file)) command
 
+-- The command and the file that the first three words name, if they do.
 abbrev pub command_by : Option (List ℕ) → Option (List ℕ) → Option (List ℕ)
     → Option (Command × List ℕ)
 command_by (Some word) (Some file) None = with_file (of_word word) file
 command_by (Some word) (Some kind) (Some file) = with_file (of_words word kind) file
 command_by _ _ _ = None
 
-abbrev pub command_in : PlainGiven → Option (Command × List ℕ)
+-- The command and the file that the arguments name, if they do.
+abbrev pub command_in : PlainArguments → Option (Command × List ℕ)
 command_in g = command_by g.first g.second g.third
 
--- what is seen of the code's pair
+-- The abstract value of the code's pair.
 abbrev pub plain_command : Option (Command × Bor (List ℕ)) → Option (Command × List ℕ)
 plain_command pair = option_map (λ p. (p.0, p.1.now)) pair
 
--- which options a command needs, and which it may have
+-- The commands that validate a chain.
 abbrev pub judges : Command → Bool
 judges commands.Verify = true
 judges commands.ExplainChain = true
 judges _ = false
 
+-- The commands that require trust anchors.
 abbrev pub asks : Command → Bool
 asks commands.Questions = true
 asks command = judges command
 
+-- The commands that read a stream of certificates.
 abbrev pub reads_stream : Command → Bool
 reads_stream commands.Split = true
 reads_stream commands.Reverse = true
@@ -92,21 +102,36 @@ reads_stream commands.DescribeStream = true
 reads_stream commands.ExplainStream = true
 reads_stream command = asks command
 
+-- The command `split`, which takes an index.
 abbrev pub splits : Command → Bool
 splits commands.Split = true
 splits _ = false
 
+-- The command `verify`.
+abbrev pub verifies : Command → Bool
+verifies commands.Verify = true
+verifies _ = false
+
+-- The commands that print a description.
 abbrev pub describes : Command → Bool
 describes (commands.Describe kind) = true
 describes commands.DescribeStream = true
 describes _ = false
 
--- what writes texts of its own, and not bytes or lines that are read again
+-- The commands that print text that can be JSON. The others write bytes, or lines that a verifier
+-- reads.
 abbrev pub tells : Command → Bool
 tells commands.Questions = false
 tells commands.Reverse = false
 tells _ = true
 
+-- The commands that print remarks.
+abbrev pub remarks : Command → Bool
+remarks (commands.Explain kind) = true
+remarks commands.ExplainChain = true
+remarks _ = false
+
+-- Whether a command requires an option, takes it, or doesn't take it.
 abbrev pub need_of : Command → Key → Need
 need_of command keys.Anchors = if asks command then needs.Needed else needs.Barred
 need_of command keys.Answers = if judges command then needs.Needed else needs.Barred
@@ -116,50 +141,66 @@ need_of command keys.Limit = if reads_stream command then needs.Allowed else nee
 need_of command keys.Place = if splits command then needs.Allowed else needs.Barred
 need_of command keys.Json = if tells command then needs.Allowed else needs.Barred
 need_of command keys.Digests = if describes command then needs.Allowed else needs.Barred
+need_of command keys.LeafFirst = if asks command then needs.Allowed else needs.Barred
+need_of command keys.Strict = if judges command then needs.Allowed else needs.Barred
+need_of command keys.Host = if judges command then needs.Allowed else needs.Barred
+need_of command keys.WarnDays = if verifies command then needs.Allowed else needs.Barred
+need_of command keys.FailOnRemark = if remarks command then needs.Allowed else needs.Barred
 
+-- An option is given if it is required, and not given if the command doesn't take it.
 abbrev pub IsMet : Need → Option (List ℕ) → Type 0
 IsMet needs.Needed value = IsSome value
 IsMet needs.Allowed value = Unit {0}
 IsMet needs.Barred value = value ≡ None
 
-abbrev pub Keeps : Command → PlainGiven → Key → Type 0
+-- The command's condition on an option is met.
+abbrev pub Keeps : Command → PlainArguments → Key → Type 0
 Keeps command g key = IsMet (need_of command key) (value_of key g)
 
-abbrev pub KeepsEach : Command → PlainGiven → List Key → Type 0
+-- The command's conditions on these options are met.
+abbrev pub KeepsEach : Command → PlainArguments → List Key → Type 0
 KeepsEach command g [] = Unit {0}
 KeepsEach command g (key ∷ rest) = Keeps command g key × KeepsEach command g rest
 
+-- All options.
 abbrev pub every_key : List Key
 every_key =
     keys.Anchors ∷ keys.Answers ∷ keys.At ∷ keys.Purpose ∷ keys.Limit ∷ keys.Place ∷ keys.Json
-    ∷ keys.Digests ∷ []
+    ∷ keys.Digests ∷ keys.LeafFirst ∷ keys.Strict ∷ keys.Host ∷ keys.WarnDays
+    ∷ keys.FailOnRemark ∷ []
 
-abbrev pub KeepsAll : Command → PlainGiven → Type 0
+-- The command's conditions on all options are met.
+abbrev pub KeepsAll : Command → PlainArguments → Type 0
 KeepsAll command g = KeepsEach command g every_key
 
--- what stands for options that are left out
-abbrev pub moment_text : PlainGiven → List ℕ
-moment_text g = unwrap_or g.at (codes "now")
+-- The validation time that is given, or its default.
+abbrev pub time_text : PlainArguments → List ℕ
+time_text g = unwrap_or g.at (codes "now")
 
-abbrev pub purpose_text : PlainGiven → List ℕ
+-- The key purpose that is given, or its default.
+abbrev pub purpose_text : PlainArguments → List ℕ
 purpose_text g = unwrap_or g.purpose (codes "serverAuth")
 
-abbrev pub limit_text : PlainGiven → List ℕ
+-- The limit that is given, or its default.
+abbrev pub limit_text : PlainArguments → List ℕ
 limit_text g = unwrap_or g.limit (codes "65536")
 
--- A moment: `now`, seconds since 1970-01-01T00:00:00Z, or a date; until 9999-12-31T23:59:59Z.
-abbrev pub IsMoment : Moment → List ℕ → Type 0
-IsMoment moments.Now text = text ≡ codes "now"
-IsMoment (moments.Seconds n) text = (n ≤ last_second)
+-- The text is this validation time: `now`, seconds since 1970-01-01T00:00:00Z, or a date; at most
+-- 9999-12-31T23:59:59Z.
+abbrev pub IsTimeText : Moment → List ℕ → Type 0
+IsTimeText moments.Now text = text ≡ codes "now"
+IsTimeText (moments.Seconds n) text = (n ≤ last_second)
     × (IsNumber n text
     ⊎ ((c : Civil) × (text ≡ date_text c) × (n ≡ unix_seconds c)))
 
-abbrev pub IsNoMoment : List ℕ → Type 0
-IsNoMoment text = (text ≢ codes "now")
+-- The text isn't a validation time.
+abbrev pub IsNoValidationTime : List ℕ → Type 0
+IsNoValidationTime text = (text ≢ codes "now")
     × ((n : ℕ) → IsNumber n text → n ≤ last_second → ⊥)
     × ((c : Civil) → is_civil c ≡ true → text ≢ date_text c)
 
--- A purpose: a name of RFC 5280 4.2.1.12 and its arcs, or arcs.
+-- The dotted arcs of a key purpose that is given by its name in RFC 5280 4.2.1.12. Any other text
+-- is unchanged.
 abbrev pub arcs_of : List ℕ → List ℕ
 arcs_of text =
     if bytes_eq text (codes "serverAuth") then codes "1.3.6.1.5.5.7.3.1"
@@ -171,84 +212,107 @@ arcs_of text =
     else if bytes_eq text (codes "anyExtendedKeyUsage") then codes "2.5.29.37.0"
     else text
 
+-- The text is a key purpose with this encoding, given by name or in dotted arcs.
 abbrev pub IsPurpose : List ℕ → List ℕ → Type 0
 IsPurpose arcs text = read_text Bound max_size (arcs_of text) ≡ Ok arcs
 
--- a limit, from 6 to 2^32 - 1
+-- The text is this limit: a number from 6 to 2^32 - 1.
 abbrev pub IsLimit : ℕ → List ℕ → Type 0
 IsLimit n text = IsNumber n text × (6 ≤ n)
 
--- the place of one certificate, if one is asked for
+-- The index of one certificate, if it is given.
 abbrev pub IsPlace : Option ℕ → Option (List ℕ) → Type 0
 IsPlace None None = Unit {0}
 IsPlace (Some n) (Some text) = IsNumber n text
 IsPlace _ _ = ⊥
 
--- the bytes of one certificate have no form of JSON
-abbrev pub is_octets_in_json : PlainGiven → Bool
-is_octets_in_json g = is_some g.place && is_some g.json
+-- The host, if it is given.
+abbrev pub IsHostOf : Option Host → Option (List ℕ) → Type 0
+IsHostOf None None = Unit {0}
+IsHostOf (Some host) (Some text) = IsHost text host
+IsHostOf _ _ = ⊥
 
--- standard input, which isn't a two files
-abbrev pub is_standard : List ℕ → Bool
-is_standard name = bytes_eq name (codes "-")
+-- The number of days, which is below 2^32, if it is given.
+abbrev pub IsDays : Option ℕ → Option (List ℕ) → Type 0
+IsDays None None = Unit {0}
+IsDays (Some n) (Some text) = IsNumber n text
+IsDays _ _ = ⊥
 
-abbrev pub are_two : List ℕ → List ℕ → Bool
-are_two first second = is_standard first && is_standard second
+-- `--json` is given for the bytes of one certificate.
+abbrev pub is_bytes_in_json : PlainArguments → Bool
+is_bytes_in_json g = is_some g.place && is_some g.json
 
+-- The file name means standard input.
+abbrev pub is_standard_input : List ℕ → Bool
+is_standard_input name = bytes_eq name (codes "-")
+
+-- Both files are standard input.
+abbrev pub are_both_standard_input : List ℕ → List ℕ → Bool
+are_both_standard_input first second = is_standard_input first && is_standard_input second
+
+-- Two of the three files are standard input.
 abbrev pub shares_input : List ℕ → List ℕ → List ℕ → Bool
 shares_input anchors answers file =
-    are_two anchors answers || (are_two anchors file || are_two answers file)
+    are_both_standard_input anchors answers || (are_both_standard_input anchors file || are_both_standard_input answers file)
 
--- This task is what a command asks for under these options.
-abbrev pub IsTask : Command → List ℕ → PlainGiven → Task → Type 0
+-- The task has this command and this file, and its fields are the values of the options.
+abbrev pub IsTask : Command → List ℕ → PlainArguments → Task → Type 0
 IsTask command file g task =
     KeepsAll command g
     × (task.command ≡ command) × (task.file.now ≡ file)
     × (task.anchors.now ≡ unwrap_or g.anchors []) × (task.answers.now ≡ unwrap_or g.answers [])
-    × IsMoment task.moment (moment_text g) × IsPurpose task.purpose (purpose_text g)
+    × IsTimeText task.moment (time_text g) × IsPurpose task.purpose (purpose_text g)
     × IsLimit task.limit (limit_text g) × IsPlace task.place g.place
     × (task.json ≡ is_some g.json) × (task.digests ≡ is_some g.digests)
-    × (is_octets_in_json g ≡ false)
+    × (task.leaf_first ≡ is_some g.leaf_first)
+    × (task.demands.is_strict ≡ is_some g.strict) × IsHostOf task.demands.host g.host
+    × IsDays task.demands.warn_days g.warn_days
+    × (task.fails_on_remark ≡ is_some g.fail_on_remark)
+    × (is_bytes_in_json g ≡ false)
     × (shares_input task.anchors.now task.answers.now file ≡ false)
 
+-- The arguments ask for this task.
 abbrev pub AsksFor : List (List ℕ) → Task → Type 0
 AsksFor words task =
-    (g : PlainGiven) × (file : List ℕ) × (given_in words ≡ Ok g)
+    (g : PlainArguments) × (file : List ℕ) × (parse_arguments words ≡ Ok g)
     × (command_in g ≡ Some (task.command, file)) × IsTask task.command file g task
 
--- a value that isn't what an option may have
-abbrev pub IsNoValue : Key → List ℕ → PlainGiven → Type 0
-IsNoValue keys.At text g = (text ≡ moment_text g) × IsNoMoment text
-IsNoValue keys.Purpose text g = (text ≡ purpose_text g)
+-- The text is the value of the option, or its default, and isn't a valid value of it.
+abbrev pub IsWrongValue : Key → List ℕ → PlainArguments → Type 0
+IsWrongValue keys.At text g = (text ≡ time_text g) × IsNoValidationTime text
+IsWrongValue keys.Purpose text g = (text ≡ purpose_text g)
     × (is_ok (read_text Bound max_size (arcs_of text)) ≡ false)
-IsNoValue keys.Limit text g = (text ≡ limit_text g)
+IsWrongValue keys.Limit text g = (text ≡ limit_text g)
     × ((n : ℕ) → IsNumber n text → 6 ≤ n → n < 2 ^ 32 → ⊥)
-IsNoValue keys.Place text g = (g.place ≡ Some text)
+IsWrongValue keys.Place text g = (g.place ≡ Some text)
     × ((n : ℕ) → IsNumber n text → n < 2 ^ 64 → ⊥)
-IsNoValue _ text g = ⊥
+IsWrongValue keys.Host text g = (g.host ≡ Some text) × ((host : Host) → IsHost text host → ⊥)
+IsWrongValue keys.WarnDays text g = (g.warn_days ≡ Some text)
+    × ((n : ℕ) → IsNumber n text → n < 2 ^ 32 → ⊥)
+IsWrongValue _ text g = ⊥
 
--- What is wrong with the options of a command.
-abbrev pub IsAmiss : Command → List ℕ → PlainGiven → Misuse → Type 0
-IsAmiss command file g (faults.Missing key) = (need_of command key ≡ needs.Needed)
+-- The error in the options of a command.
+abbrev pub IsOptionError : Command → List ℕ → PlainArguments → Misuse → Type 0
+IsOptionError command file g (faults.Missing key) = (need_of command key ≡ needs.Needed)
     × (value_of key g ≡ None)
-IsAmiss command file g (faults.Excess key) = (need_of command key ≡ needs.Barred)
+IsOptionError command file g (faults.Excess key) = (need_of command key ≡ needs.Barred)
     × IsSome (value_of key g)
-IsAmiss command file g (faults.Wrong key text) = IsNoValue key text.now g
-IsAmiss command file g faults.OctetsInJson = IsTrue (is_octets_in_json g)
-IsAmiss command file g faults.SharedInput =
+IsOptionError command file g (faults.Wrong key text) = IsWrongValue key text.now g
+IsOptionError command file g faults.BytesInJson = IsTrue (is_bytes_in_json g)
+IsOptionError command file g faults.SharedInput =
     IsTrue (shares_input (unwrap_or g.anchors []) (unwrap_or g.answers []) file)
-IsAmiss command file g _ = ⊥
+IsOptionError command file g _ = ⊥
 
--- Why words name no command and file.
-abbrev pub IsUnread : List (List ℕ) → Misuse → Type 0
-IsUnread words (faults.Words fault) = given_in words ≡ Err (fault_plain fault)
-IsUnread words faults.NoCommand =
-    (g : PlainGiven) × (given_in words ≡ Ok g) × (command_in g ≡ None)
-IsUnread words _ = ⊥
+-- The arguments don't name a command and a file, for this reason.
+abbrev pub HasNoCommand : List (List ℕ) → Misuse → Type 0
+HasNoCommand words (faults.Words fault) = parse_arguments words ≡ Err (error_plain fault)
+HasNoCommand words faults.NoCommand =
+    (g : PlainArguments) × (parse_arguments words ≡ Ok g) × (command_in g ≡ None)
+HasNoCommand words _ = ⊥
 
--- What is wrong with words.
+-- The error in the arguments.
 abbrev pub IsMisuse : List (List ℕ) → Misuse → Type 0
 IsMisuse words misuse =
-    IsUnread words misuse
-    ⊎ ((g : PlainGiven) × (command : Command) × (file : List ℕ) × (given_in words ≡ Ok g)
-    × (command_in g ≡ Some (command, file)) × IsAmiss command file g misuse)
+    HasNoCommand words misuse
+    ⊎ ((g : PlainArguments) × (command : Command) × (file : List ℕ) × (parse_arguments words ≡ Ok g)
+    × (command_in g ≡ Some (command, file)) × IsOptionError command file g misuse)

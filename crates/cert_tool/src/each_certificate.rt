@@ -1,16 +1,16 @@
-//! Descriptions of the certificates of a stream, one by one.
+//! Descriptions of the certificates of a stream, one at a time, in constant memory.
 
 ghost use Rattle.std.specs.Prelude.{◌≡◌, ℕ, ◌<◌, ◌≤◌, List, [], ◌++◌, Some, Option};
 ghost use Rattle.std.specs.Prelude.{IfSome, IfNone, IfErr, IfOk, OnOk};
 ghost use Rattle.cert_tool_explain.specs.DeskIo.Devices.{Fails, sink, source};
 ghost use Rattle.cert_tool_explain.specs.DeskChecking.declared.outcome.Outcome.{Outcome};
-ghost use Rattle.cert_tool.specs.Passing.{HasMoved, HasTaken, IsBehind, IsHeld, IsPassed, IsRead};
-ghost use Rattle.cert_tool.specs.Passing.{IsUnwritten, stop_behind};
-ghost use Rattle.cert_tool.specs.Splitting.{IsEndTold};
-ghost use Rattle.cert_tool.specs.Stops.{unasked};
-ghost use Rattle.cert_tool.specs.TaskRuns.{ToldLast};
+ghost use Rattle.cert_tool.specs.DescribedStreams.{HasMoved, HasTaken, AreCountsAfter, HasDecoded, IsDescribedStream, IsRead};
+ghost use Rattle.cert_tool.specs.DescribedStreams.{IsUnwritten, stop_after};
+ghost use Rattle.cert_tool.specs.Splitting.{IsEarlyEndReported};
+ghost use Rattle.cert_tool.specs.EarlyEnds.{without_questions};
+ghost use Rattle.cert_tool.specs.TaskRuns.{OnLastPart};
 
-use crate::stopping::tell_stop;
+use crate::early_end::report_outcome;
 use cert_tool_explain::desk_bundle::{Bundle, BundleError, Standing};
 use cert_tool_explain::desk_checking::Outcome;
 use cert_tool_explain::desk_io::{ExitStatus, Input, Output, write_all};
@@ -19,17 +19,19 @@ use cert_tool_explain::tool_describe::add_certificate;
 use cert_tool_explain::tool_lines::Lines;
 use std::alloc::{AllocError, Global};
 
-// The certificates of a stream that were described: how many, and how many bytes they have.
+// The certificates of a stream that were described and dropped: their number, and their total
+// number of bytes.
 #[derive(Clone, Copy)]
-struct Passed {
+struct DescribedSoFar {
     count: usize,
     octets: u64,
 }
 
-impl Passed {
-    // With those of a bundle after them, if so many can be counted, and one more.
-    fn with(self, bundle: &Bundle) -> Option<Passed>
-        ensures { IfSome result (λ next. IsBehind self bundle.now next) }
+impl DescribedSoFar {
+    // Returns the counts with the certificates of a bundle added, or `None` if they, and one more
+    // certificate, can't be counted.
+    fn with(self, bundle: &Bundle) -> Option<DescribedSoFar>
+        ensures { IfSome result (λ next. AreCountsAfter self bundle.now next) }
     {
         let Some(count) = self.count.checked_add(bundle.len()) else {
             return None;
@@ -40,12 +42,12 @@ impl Passed {
         if octets.checked_add(u64::from(bundle.limit())).is_none() {
             return None;
         }
-        Some(Passed { count, octets })
+        Some(DescribedSoFar { count, octets })
     }
 
-    // Returns what ended early a stream that ends after them: that there is none.
+    // Returns the error for the end of the stream, if no certificate was described.
     fn end(self) -> Option<Outcome>
-        ensures none { self.count ≡ 0 → result ≡ Some (unasked Verdict.Empty) }
+        ensures none { self.count ≡ 0 → result ≡ Some (without_questions Verdict.Empty) }
         ensures some { 0 < self.count → result ≡ None }
     {
         if self.count > 0 {
@@ -54,9 +56,9 @@ impl Passed {
         Some(told(Verdict::Empty))
     }
 
-    // Returns what a stream comes to that a bundle refuses after them.
+    // Returns the outcome for an error of the bundle after these certificates.
     fn stop(self, error: BundleError) -> Outcome
-        ensures { result ≡ stop_behind self error }
+        ensures { result ≡ stop_after self error }
     {
         match error {
             BundleError::Fault { kind, .. } => told(Verdict::StreamFault {
@@ -69,15 +71,15 @@ impl Passed {
     }
 }
 
-// Returns what is reported of a stream of which nothing was asked.
+// Returns the outcome with a verdict that needed no signature.
 fn told(verdict: Verdict) -> Outcome
-    ensures { result ≡ unasked verdict }
+    ensures { result ≡ without_questions verdict }
 {
     Outcome::Checked(Checked { verdict, calls: 0 })
 }
 
-// How certificates are described: as lines or as lines of JSON, with digests or without; and
-// whether a line on the error output counts them.
+// How certificates are described: as lines or as JSON, with or without digests, and with or without
+// a progress line on the error output.
 #[derive(Drop)]
 pub(crate) struct Form {
     pub(crate) alloc: Global,
@@ -86,11 +88,12 @@ pub(crate) struct Form {
     pub(crate) is_watched: bool,
 }
 
-// After how many certificates that line is reported again.
+// The progress line is updated after this many certificates.
 const STEP: usize = 1000;
 
 impl Form {
-    // Returns what is written of the certificate at a place, which begins at a byte of the stream.
+    // Returns the description of the certificate at this index, which begins at this offset of the
+    // stream.
     fn block(&self, place: usize, octet: u64, octets: &[u8]) -> Result<Vec<u8>, AllocError> {
         let mut lines = Lines::new(self.alloc, self.is_json);
         lines.has_digests = self.has_digests;
@@ -112,12 +115,12 @@ impl Form {
         lines.finish()
     }
 
-    // Adds what is written of the certificates of a bundle, before which these stand.
-    fn add_blocks(
+    // Appends the descriptions of a bundle's certificates, which come after those of `passed`.
+    fn add_descriptions(
         &self,
         text: &mut Vec<u8>,
         bundle: &Bundle,
-        passed: Passed,
+        passed: DescribedSoFar,
     ) -> Result<(), AllocError> {
         for number in 0..bundle.len() {
             let entry = bundle.get(number).unwrap();
@@ -129,10 +132,10 @@ impl Form {
         Ok(())
     }
 
-    // Tells how many certificates are described, if that is watched and many more are than was told
-    // last. Answers what was told last. The next text for the error output begins where this one
-    // does.
-    fn tell_count<E: Output>(&self, last: usize, count: usize, err: &mut E) -> usize {
+    // Updates the progress line, if there is one and at least `STEP` certificates were described
+    // since the last update. Returns the number that the line shows now. The next text on the error
+    // output overwrites the line.
+    fn show_count<E: Output>(&self, last: usize, count: usize, err: &mut E) -> usize {
         if !self.is_watched || count.saturating_sub(last) < STEP {
             return last;
         }
@@ -142,7 +145,7 @@ impl Form {
         count
     }
 
-    // Erases what is there of the last count (ECMA-48 8.3.41).
+    // Erases the progress line (ECMA-48 8.3.41).
     fn erase_count<E: Output>(&self, err: &mut E) {
         if self.is_watched {
             let _ = write_all(err, b"\x1b[K");
@@ -150,31 +153,31 @@ impl Form {
     }
 }
 
-// What was read of a stream after the certificates that are forgotten: these bytes, of which a
-// bundle has the certificates.
+// The part of a stream that was read after the certificates that were dropped: its bytes, and the
+// bundle that decodes them.
 #[derive(Drop)]
-struct Ahead {
+struct ReadAhead {
     bundle: Bundle,
     octets: Vec<u8>,
 }
 
-impl Ahead {
-    // Nothing was read.
-    fn new(alloc: Global, limit: u32) -> Ahead
+impl ReadAhead {
+    // Returns the empty part.
+    fn new(alloc: Global, limit: u32) -> ReadAhead
         requires { 6 ≤ limit }
         ensures nothing { result.octets.items ≡ [] }
-        ensures held { IsHeld limit result.bundle Standing.Open [] }
+        ensures held { HasDecoded limit result.bundle Standing.Open [] }
     {
-        Ahead {
+        ReadAhead {
             bundle: Bundle::new(alloc, limit),
             octets: Vec::new(alloc),
         }
     }
 
-    // Takes the next piece of a stream, of which an empty one is its end. Says whether more may
-    // follow.
+    // Decodes the next piece of a stream; an empty piece is the end of the stream. Returns whether
+    // more may follow.
     fn take(&mut self, piece: &[u8]) -> Result<bool, BundleError>
-        requires { IsHeld self.old.bundle.limit self.old.bundle Standing.Open
+        requires { HasDecoded self.old.bundle.limit self.old.bundle Standing.Open
             self.old.octets.items }
         ensures octets { OnOk result (self.new.octets.items ≡ self.old.octets.items ++ piece.now) }
         ensures taken { HasTaken self.old.bundle.limit self.new.bundle self.old.octets.items
@@ -195,9 +198,9 @@ impl Ahead {
         }
     }
 
-    // Reads the next piece of a stream and takes it, or answers that the read failed.
+    // Reads and decodes the next piece of a stream, or returns `None` if the read failed.
     fn feed<S: Input>(&mut self, stream: &mut S) -> Option<Result<bool, BundleError>>
-        requires { IsHeld self.old.bundle.limit self.old.bundle Standing.Open
+        requires { HasDecoded self.old.bundle.limit self.old.bundle Standing.Open
             self.old.octets.items }
         ensures fed { IfSome result (λ fed. (piece : List ℕ)
             × IsRead (source S.takes S.is_ended S.failures stream.old stream.new) piece
@@ -213,13 +216,13 @@ impl Ahead {
         Some(self.take(&buffer[..count]))
     }
 
-    // Forgets the certificates that the bundle has.
+    // Drops the certificates of the bundle.
     fn forget(&mut self, alloc: Global, limit: u32) -> Result<(), AllocError>
         requires limit { 6 ≤ limit }
-        requires held { IsHeld limit self.old.bundle Standing.Open self.old.octets.items }
+        requires held { HasDecoded limit self.old.bundle Standing.Open self.old.octets.items }
         ensures rest { OnOk result (self.new.octets.items ≡ self.old.bundle.rest) }
         ensures held { OnOk result
-            (IsHeld limit self.new.bundle Standing.Open self.old.bundle.rest) }
+            (HasDecoded limit self.new.bundle Standing.Open self.old.bundle.rest) }
     {
         if self.bundle.is_empty() {
             return Ok(());
@@ -234,24 +237,24 @@ impl Ahead {
     }
 }
 
-// Writes what is written of the certificates of a bundle, before which these stand, and answers
-// which come before the next.
-fn write_blocks<O: Output>(
+// Writes the descriptions of a bundle's certificates, which come after those of `passed`, and
+// returns the new counts.
+fn write_descriptions<O: Output>(
     form: &Form,
     bundle: &Bundle,
-    passed: Passed,
+    passed: DescribedSoFar,
     out: &mut O,
-) -> Result<Passed, Outcome>
-    ensures behind { IfOk result (IsBehind passed bundle.now) }
+) -> Result<DescribedSoFar, Outcome>
+    ensures behind { IfOk result (AreCountsAfter passed bundle.now) }
     ensures written { OnOk result (HasMoved (sink O.gives O.failures out.old out.new)) }
     ensures unwritten { IfErr result (IsUnwritten (sink O.gives O.failures out.old out.new)) }
 {
-    // More than can be counted have no room.
+    // Certificates that can't be counted don't fit in memory.
     let Some(next) = passed.with(bundle) else {
         return Err(Outcome::OutOfMemory);
     };
     let mut text = Vec::new(form.alloc);
-    if form.add_blocks(&mut text, bundle, passed).is_err() {
+    if form.add_descriptions(&mut text, bundle, passed).is_err() {
         return Err(Outcome::OutOfMemory);
     }
     if write_all(out, &text).is_err() {
@@ -260,11 +263,11 @@ fn write_blocks<O: Output>(
     Ok(next)
 }
 
-// Writes what each certificate of a stream says, in turn, and forgets it, after what was read of
-// it. Answers what ended the stream early, if something did.
+// Describes each certificate of a stream in turn and drops it. Returns what ended the stream early,
+// if anything did.
 fn write_each<S: Input, O: Output, E: Output>(
     form: &Form,
-    ahead: &mut Ahead,
+    ahead: &mut ReadAhead,
     stream: &mut S,
     out: &mut O,
     err: &mut E,
@@ -272,21 +275,21 @@ fn write_each<S: Input, O: Output, E: Output>(
 ) -> Option<Outcome>
     requires limit { 6 ≤ limit }
     requires nothing { ahead.old.octets.items ≡ [] }
-    requires held { IsHeld limit ahead.old.bundle Standing.Open [] }
-    ensures { IsPassed (source S.takes S.is_ended S.failures stream.old stream.new)
+    requires held { HasDecoded limit ahead.old.bundle Standing.Open [] }
+    ensures { IsDescribedStream (source S.takes S.is_ended S.failures stream.old stream.new)
         (sink O.gives O.failures out.old out.new) limit result }
 {
-    let mut passed = Passed {
+    let mut passed = DescribedSoFar {
         count: 0,
         octets: 0,
     };
     let mut counted = 0;
-    // Each piece has a byte or more, and of so many no more can be counted.
+    // Each piece has at least one byte, and the total is less than 2^64.
     'pieces: for _ in 0..u64::MAX {
         let Some(fed) = ahead.feed(stream) else {
             return Some(Outcome::Device);
         };
-        passed = match write_blocks(form, &ahead.bundle, passed, out) {
+        passed = match write_descriptions(form, &ahead.bundle, passed, out) {
             Ok(next) => next,
             Err(outcome) => return Some(outcome),
         };
@@ -295,7 +298,7 @@ fn write_each<S: Input, O: Output, E: Output>(
             Ok(false) => return passed.end(),
             Err(error) => return Some(passed.stop(error)),
         }
-        counted = form.tell_count(counted, passed.count, err);
+        counted = form.show_count(counted, passed.count, err);
         match ahead.forget(form.alloc, limit) {
             Ok(()) => {}
             Err(_) => return Some(Outcome::OutOfMemory),
@@ -304,9 +307,9 @@ fn write_each<S: Input, O: Output, E: Output>(
     Some(Outcome::OutOfMemory)
 }
 
-// Writes what each certificate of a stream says, in turn, and then tells what ended the stream
-// early, if something did. Where the form is watched, a line on the error output counts them
-// meanwhile.
+// Describes each certificate of a stream in turn, and then reports what ended the stream early, if
+// anything did. If the form asks for it, a progress line on the error output shows the number of
+// certificates.
 pub(crate) fn run_describe<S: Input, O: Output, E: Output>(
     form: &Form,
     stream: &mut S,
@@ -316,16 +319,16 @@ pub(crate) fn run_describe<S: Input, O: Output, E: Output>(
 ) -> ExitStatus
     requires { 6 ≤ limit }
     ensures told { (ended : Option Outcome)
-        × IsPassed (source S.takes S.is_ended S.failures stream.old stream.new)
+        × IsDescribedStream (source S.takes S.is_ended S.failures stream.old stream.new)
         (sink O.gives O.failures out.old out.new) limit ended
-        × ToldLast (sink E.gives E.failures err.old err.new)
-        (λ last. IsEndTold last ended result) }
+        × OnLastPart (sink E.gives E.failures err.old err.new)
+        (λ last. IsEarlyEndReported last ended result) }
 {
-    let mut ahead = Ahead::new(form.alloc, limit);
+    let mut ahead = ReadAhead::new(form.alloc, limit);
     let ended = write_each(form, &mut ahead, stream, out, err, limit);
     form.erase_count(err);
     match ended {
         None => ExitStatus::Done,
-        Some(outcome) => tell_stop(form.alloc, outcome, err),
+        Some(outcome) => report_outcome(form.alloc, outcome, err),
     }
 }

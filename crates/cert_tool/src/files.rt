@@ -1,51 +1,132 @@
-//! The files that words name.
+//! Opening the files that the arguments name.
 
-ghost use Rattle.std.specs.Prelude.{◌≡◌, IfOk, IfErr, OnOk};
+ghost use Rattle.std.specs.Prelude.{◌≡◌, IfOk, IfErr, OnErr, OnOk};
 ghost use Rattle.cert_tool_explain.specs.DeskIo.Devices.{sink};
-ghost use Rattle.cert_tool_explain.specs.DeskIo.NamedInputs.{unopened_status};
-ghost use Rattle.cert_tool.specs.Stops.{IsReasonTold};
+ghost use Rattle.cert_tool_explain.specs.DeskIo.NamedInputs.{inputs};
+ghost use Rattle.cert_tool.specs.NamedFiles.{IsOpenedAs, IsUnusable, wrong_content_status, file_error_status};
+ghost use Rattle.cert_tool.specs.EarlyEnds.{IsReasonReported};
 
-use crate::telling::{line_with, tell};
-use cert_tool_explain::desk_io::{ExitStatus, NamedInputs, OpenError, Output, tell_memory};
-use std::alloc::Global;
+use crate::host_files::ErrorReasons;
+use crate::messages::tell;
+use crate::pem_texts::{not_text_line, refused_line, too_much_line};
+use cert_tool_explain::desk_io::{ExitStatus, Input, NamedInputs, OpenError, Output, tell_memory};
+use cert_tool_pem::{FileError, FileInput, Wanted, input_of};
+use std::alloc::{AllocError, Global};
+use std::io;
 
-// Opens the input of a name. Where it can't be opened that is reported, and the status is the
-// error.
-pub(crate) fn open<I, F: NamedInputs<I>, E: Output>(
-    alloc: Global,
-    files: &F,
-    name: &str,
-    err: &mut E,
-) -> Result<I, ExitStatus>
-    ensures opened { IfOk result (λ input. F.is_opened files.now name.now input) }
-    ensures untold { OnOk result (err.new ≡ err.old) }
-    ensures stopped { IfErr result (λ status. (error : OpenError)
-        × F.is_unopened files.now name.now error
-        × IsReasonTold (sink E.gives E.failures err.old err.new)
-        × (status ≡ unopened_status error)) }
+// Returns the exit status for a file that doesn't contain what the command needs.
+fn wrong_content_status(wanted: Wanted) -> ExitStatus
+    ensures { result ≡ wrong_content_status wanted }
 {
-    match files.open(name) {
-        Ok(input) => Ok(input),
-        Err(OpenError::OutOfMemory) => {
-            let _ = tell_memory(err);
-            Err(ExitStatus::Memory)
+    match wanted {
+        Wanted::Anchors => ExitStatus::Arguments,
+        _ => ExitStatus::Faulty,
+    }
+}
+
+// Returns the message for a file that can't be opened or read, with the reason if it is known.
+fn failure_line(
+    alloc: Global,
+    what: &str,
+    name: &str,
+    error: Option<io::Error>,
+) -> Result<String, AllocError> {
+    match error {
+        Some(error) => format!(in alloc; "cannot {what} {name:?}: {error}"),
+        None => format!(in alloc; "cannot {what} {name:?}"),
+    }
+}
+
+// Reports why a file doesn't contain what the command needs, and returns the exit status.
+fn report_file_error<E: Output>(
+    alloc: Global,
+    wanted: Wanted,
+    name: &str,
+    error: &FileError,
+    last: Option<io::Error>,
+    err: &mut E,
+) -> ExitStatus
+    ensures reason { IsReasonReported (sink E.gives E.failures err.old err.new) }
+    ensures status { result ≡ file_error_status wanted error.now }
+{
+    match error {
+        FileError::TooMuch => {
+            tell(err, too_much_line(alloc, name));
+            wrong_content_status(wanted)
         }
-        Err(OpenError::Device) => {
-            tell(err, line_with(alloc, "cannot open ", name, ""));
-            Err(ExitStatus::Device)
+        FileError::Device => {
+            tell(err, failure_line(alloc, "read", name, last));
+            ExitStatus::Device
+        }
+        FileError::OutOfMemory => {
+            let _ = tell_memory(err);
+            ExitStatus::Memory
+        }
+        FileError::NotText => {
+            tell(err, not_text_line(alloc, name));
+            ExitStatus::Arguments
+        }
+        FileError::Refused {
+            text,
+            number,
+            fault,
+        } => {
+            let line = refused_line(alloc, name, wanted, text.as_slice(), *number, *fault);
+            tell(err, line);
+            wrong_content_status(wanted)
         }
     }
 }
 
-// Says which file failed, if this one did.
-pub(crate) fn tell_failure<I, F: NamedInputs<I>, E: Output>(
+// Opens a file by its name, and returns an input of the DER that the command needs, which PEM is
+// decoded to. If that fails, `open` reports the reason and returns the exit status as its error.
+pub(crate) fn open<I: Input + Drop, F: NamedInputs<I> + ErrorReasons, E: Output>(
     alloc: Global,
     files: &F,
-    input: &I,
+    wanted: Wanted,
+    name: &str,
+    err: &mut E,
+) -> Result<FileInput<I>, ExitStatus>
+    ensures opened { IfOk result (IsOpenedAs
+        (inputs I.takes I.is_ended I.failures (F.is_opened files.now) (F.is_unopened files.now))
+        (wanted, name.now)) }
+    ensures untold { OnOk result (err.new ≡ err.old) }
+    ensures stopped { IfErr result (IsUnusable
+        (inputs I.takes I.is_ended I.failures (F.is_opened files.now) (F.is_unopened files.now))
+        (wanted, name.now)) }
+    ensures reason { OnErr result (IsReasonReported (sink E.gives E.failures err.old err.new)) }
+{
+    let input = match files.open(name) {
+        Ok(input) => input,
+        Err(OpenError::OutOfMemory) => {
+            let _ = tell_memory(err);
+            return Err(ExitStatus::Memory);
+        }
+        Err(OpenError::Device) => {
+            tell(err, failure_line(alloc, "open", name, files.last_error()));
+            return Err(ExitStatus::Device);
+        }
+    };
+    match input_of(alloc, wanted, input) {
+        Ok(input) => Ok(input),
+        Err(error) => {
+            let last = files.last_error();
+            Err(report_file_error(alloc, wanted, name, &error, last, err))
+        },
+    }
+}
+
+// Names the file in which a read failed, if one did.
+pub(crate) fn report_failure<I: Input, F: NamedInputs<I> + ErrorReasons, E: Output>(
+    alloc: Global,
+    files: &F,
+    input: &FileInput<I>,
     name: &str,
     err: &mut E,
 ) {
-    if files.has_failed(input) {
-        tell(err, line_with(alloc, "cannot read ", name, ""));
+    if let Some(rest) = input.rest() {
+        if files.has_failed(rest) {
+            tell(err, failure_line(alloc, "read", name, files.last_error()));
+        }
     }
 }

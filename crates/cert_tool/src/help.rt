@@ -3,7 +3,7 @@
 ghost use Rattle.std.specs.Prelude.{◌≡◌, map, option_map};
 ghost use Rattle.cert_tool.specs.Help.{help_for, help_of};
 
-// The answer to `--version`.
+// The output of `--version`.
 pub(crate) const VERSION: &str = "cert_tool 1.0.0\n";
 
 // The help for the program as a whole.
@@ -23,26 +23,33 @@ const USAGE: &str = "usage: cert_tool COMMAND OPTIONS FILE, where COMMAND is one
 ";
 
 // The help for `questions`.
-const QUESTIONS: &str = "usage: cert_tool questions --anchors FILE [--limit BYTES] STREAM
+const QUESTIONS: &str =
+    "usage: cert_tool questions --anchors FILE [--leaf-first] [--limit BYTES] STREAM
 Writes a line for each signature that validating the chain may need:
 PLACE ANCHOR KEY ALGORITHM SIGNED BITS, the last four in hex.
 A verifier, such as cert_tool_answer (examples/answer.py), keeps the lines whose signature is valid.
 The lines that it keeps are the answers for `verify`.
---anchors  a file of trust anchors: certificates in DER, one after another
+--anchors  a file of trust anchors: certificates in DER or PEM, one after another
 ";
 
 // The help for `verify`.
 const VERIFY: &str = "usage: cert_tool verify --anchors FILE --answers FILE
-       [--at TIME] [--purpose PURPOSE] [--limit BYTES] [--json] STREAM
+       [--at TIME] [--purpose PURPOSE] [--host NAME] [--strict] [--warn-days DAYS]
+       [--leaf-first] [--limit BYTES] [--json] STREAM
 Validates the certificate chain in STREAM. A signature is valid if the answers contain its line.
-Host names, revocation, policies and name constraints aren't checked.
-Prints `trusted calls=N` (status 0), `refused PLACE RULE calls=N` (1), `fault PLACE OFFSET KIND` (2)
-or `empty` (3). `explain chain`, with the same options, prints why a chain is refused.
---anchors  a file of trust anchors: certificates in DER, one after another
+Revocation, policies and name constraints aren't checked, and host names only with --host.
+Prints `trusted calls=N \"NAME\"` (status 0), `refused PLACE RULE calls=N` (1), `empty` (3), or
+`fault PLACE OFFSET KIND` (2). NAME is the subject of the last certificate, the end entity's.
+`explain chain`, with the same options, prints why a chain is refused.
+--anchors  a file of trust anchors: certificates in DER or PEM, one after another
 --answers  a file of the lines of `questions` that a verifier kept
 --at       validation time: now (the default), YYYY-MM-DDTHH:MM:SSZ, or seconds since 1970
 --purpose  key purpose: serverAuth (the default), clientAuth, codeSigning, emailProtection,
            timeStamping, OCSPSigning, anyExtendedKeyUsage, or an OID
+--host     the host whose certificate the chain has to be (status 1 if it isn't)
+--strict   refuses what no rule checks, too: name constraints, a key usage of the end entity that
+           doesn't fit the key purpose, and a trust anchor that breaks a rule for certificates
+--warn-days  prints `ends PLACE`, too, if a trusted chain ends within so many days (status 7)
 ";
 
 // The help for `split`.
@@ -65,37 +72,40 @@ after its length. docs/CLI.md has the form of both.
 ";
 
 // The help for `describe`.
-const DESCRIBE: &str = "usage: cert_tool describe KIND [--digests] [--json] FILE
-       cert_tool describe stream [--limit BYTES] [--digests] [--json] STREAM
-Prints what FILE contains, a line for each part. `describe stream` prints each certificate of STREAM
-as soon as it is read; with --json it prints a document in each line.
+const DESCRIBE: &str = "usage: cert_tool describe KIND [--digests] [--json] FILE...
+       cert_tool describe stream [--limit BYTES] [--digests] [--json] STREAM...
+Prints what each FILE contains, a line for each part. `describe stream` prints each certificate of
+STREAM as soon as it is read; with --json it prints a document in each line.
 KIND       certificate, list (a CRL) or request (a CSR)
 --digests  also prints SHA-1 and SHA-256 of the encoding and of the key
 ";
 
 // The help for `explain`.
-const EXPLAIN: &str = "usage: cert_tool explain KIND [--json] FILE
+const EXPLAIN: &str = "usage: cert_tool explain KIND [--fail-on-remark] [--json] FILE
        cert_tool explain anchors [--json] FILE
        cert_tool explain stream [--limit BYTES] [--json] STREAM
        cert_tool explain chain --anchors FILE --answers FILE
-       [--at TIME] [--purpose PURPOSE] [--limit BYTES] [--json] STREAM
+       [--at TIME] [--purpose PURPOSE] [--host NAME] [--strict] [--leaf-first]
+       [--fail-on-remark] [--limit BYTES] [--json] STREAM
 Prints the first error in FILE, the byte at which it is, and the parts around that byte. If FILE can
 be decoded, prints remarks: what RFC 5280 asks for beyond that. `explain chain` prints which rules
 each certificate breaks, and why, and what is unwise. It takes the options of `verify`; without
 answers (--answers /dev/null) it counts every signature as wrong.
 KIND       certificate, list (a CRL) or request (a CSR)
+--fail-on-remark  the exit status is 1 if there is a remark, an error or a broken rule
 ";
 
 // The end of each help text: files, common options and exit statuses.
 pub(crate) const ARGUMENTS: &str =
-    "FILE       a file in DER; `openssl x509`, `crl` or `req` with -outform DER converts from PEM
-STREAM     certificates in DER, one after another; the first is the one that an anchor signed
+    "FILE       a file in DER, or in PEM with blocks of this kind only
+STREAM     certificates in DER or PEM, one after another; the first is the one that an anchor signed
+--leaf-first  STREAM is PEM, and its first certificate is the end entity's, as a TLS server sends it
 --limit    the most bytes that a certificate of STREAM may have: 6 to 4294967295 (default 65536)
 --json     prints a document of JSON instead of lines
 An option's value may also follow `=`, as in --limit=4096. The file `-` is standard input.
 Exit status: 0 if all is written (and a chain is trusted), 1 if a chain is refused, 2 if the input
 is malformed, 3 if it is empty, 4 if arguments, trust anchors or answers are wrong, 5 on an I/O
-error, 6 if memory runs out.
+error, 6 if memory runs out, 7 if a trusted chain ends soon (--warn-days).
 ";
 
 // Returns the help for the command that begins with this word.
@@ -114,7 +124,7 @@ fn help_for(word: &str) -> Option<&'static str>
     }
 }
 
-// Returns the help for the first of these words that names a command, or for the whole program.
+// Returns the help for the first word that names a command, or for the whole program.
 pub(crate) fn help_of(words: &[&str]) -> &'static str
     ensures { result.now ≡ help_of (map (λ word. word.now) words.now) }
 {

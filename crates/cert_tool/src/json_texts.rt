@@ -1,4 +1,4 @@
-//! Texts in strings of JSON (RFC 8259 7).
+//! JSON strings (RFC 8259 7).
 
 ghost use Rattle.std.specs.Prelude.{◌≡◌, ◌<◌, ◌^◌, ◌++◌, IfOk, OnOk, string_bytes};
 ghost use Rattle.cert_tool.specs.JsonTexts.{is_plain, unit_escape, letter_text};
@@ -6,14 +6,14 @@ ghost use Rattle.cert_tool.specs.JsonTexts.{letter_escape, escaped_text, place_o
 
 use std::alloc::{AllocError, Global};
 
-// Returns whether a character stands for itself.
+// Returns whether a character needs no escape.
 fn is_plain(letter: char) -> bool
     ensures { result ≡ is_plain letter }
 {
     letter > '\x1f' && letter < '\x7f' && letter != '"' && letter != '\\'
 }
 
-// Returns a unit of UTF-16.
+// Returns the escape of a UTF-16 code unit.
 fn unit_escape(alloc: Global, unit: u32) -> Result<String, AllocError>
     requires { unit < 2 ^ 16 }
     ensures { IfOk result (λ text. string_bytes text ≡ unit_escape unit) }
@@ -24,7 +24,7 @@ fn unit_escape(alloc: Global, unit: u32) -> Result<String, AllocError>
     format!(in alloc; "\\u{digits}")
 }
 
-// Returns a character in UTF-16.
+// Returns the escape of a character, which is one or two UTF-16 code units.
 fn letter_escape(alloc: Global, letter: char) -> Result<String, AllocError>
     ensures { IfOk result (λ text. string_bytes text ≡ letter_escape letter) }
 {
@@ -39,7 +39,7 @@ fn letter_escape(alloc: Global, letter: char) -> Result<String, AllocError>
     format!(in alloc; "{first}{second}")
 }
 
-// Adds a character.
+// Appends a character, escaped if it must be.
 fn add_letter(alloc: Global, text: &mut String, letter: char) -> Result<(), AllocError>
     ensures { OnOk result (string_bytes text.new ≡ string_bytes text.old ++ letter_text letter) }
 {
@@ -52,8 +52,9 @@ fn add_letter(alloc: Global, text: &mut String, letter: char) -> Result<(), Allo
     Ok(())
 }
 
-// Returns a text as it is between the quotes of a string: what isn't a printable character of ASCII
-// follows `\u`, in UTF-16, and so do quotes and backslashes.
+// Returns a text as it is written between the quotes of a JSON string. Printable ASCII characters
+// are written as they are; quotes, backslashes and all other characters are written as `\u` escapes
+// in UTF-16.
 pub(crate) fn escaped_text(alloc: Global, text: &str) -> Result<String, AllocError>
     ensures { IfOk result (λ escaped. string_bytes escaped ≡ escaped_text text.now) }
 {
@@ -64,8 +65,8 @@ pub(crate) fn escaped_text(alloc: Global, text: &str) -> Result<String, AllocErr
     Ok(escaped)
 }
 
-// Returns where a certificate is in a stream, and whose it is, as an object. The subject is a text
-// as `escaped_text` has it.
+// Returns the JSON object with the index, offset, length and subject of a certificate. The subject
+// must already be escaped.
 pub(crate) fn place_object(
     alloc: Global,
     place: usize,

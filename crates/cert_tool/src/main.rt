@@ -1,38 +1,46 @@
-//! Judges real chains by answers from outside, explains refusals, describes certificates, and takes
-//! streams of certificates apart. `cert_tool --help` says how it is called.
-//! `cert_tool serve` answers requests in frames on standard input, until it ends.
+//! Validates certificate chains with signature results from another program, explains rejections,
+//! describes certificates, and splits streams of certificates. `cert_tool --help` shows the usage.
+//! `cert_tool serve` answers requests on standard input until the input ends.
 #![tactic(auto)]
 
-mod arguments;
-mod asking;
 mod chains;
 mod clock;
+mod demand_lines;
+mod demand_reports;
 mod each_certificate;
+mod early_end;
+mod end_entity;
 mod explaining;
 mod files;
-mod given;
 mod help;
+mod host_files;
 mod json_texts;
+mod messages;
 mod no_command;
+mod option_values;
+mod parsed_arguments;
+mod pem_texts;
+mod questions;
 mod reading;
-mod sent;
+mod request_inputs;
+mod running;
 mod serving;
+mod several_files;
 mod shell_words;
 mod splitting;
-mod stopping;
+mod status;
 mod stream_fault;
 mod streams;
 mod tasks;
-mod telling;
 mod verifying;
-mod words;
 
 use crate::clock::HostClock;
+use crate::host_files::{LastError, RecordedFiles, RecordedOutput, SilencedErrors};
 use crate::serving::serve;
-use crate::words::obey;
-use cert_tool_explain::desk_io::{ExitStatus, FromRead, HostFiles, ToWrite, tell_memory, words_of};
+use crate::several_files::obey_words;
+use crate::status::Status;
+use cert_tool_explain::desk_io::{FromRead, Output, ToWrite, tell_memory, words_of, write_all};
 use std::alloc::{AllocError, Global};
-use std::io;
 use std::io::IsTerminal;
 use std::process::ExitCode;
 
@@ -40,7 +48,7 @@ fn main(rt: HostRuntime) -> ExitCode {
     ExitCode::from(run(&rt).code())
 }
 
-// Returns the texts of arguments, without the program's name.
+// Returns the arguments without the program's name.
 fn texts_of(alloc: Global, words: &[String]) -> Result<Vec<&str>, AllocError> {
     let mut texts = Vec::new(alloc);
     if let [_, words @ ..] = words {
@@ -51,34 +59,53 @@ fn texts_of(alloc: Global, words: &[String]) -> Result<Vec<&str>, AllocError> {
     Ok(texts)
 }
 
-// Does what the arguments ask for.
-fn run(rt: &HostRuntime) -> ExitStatus {
-    let mut err = ToWrite::new(rt.stderr());
-    let words = match words_of(rt, &mut err, b"a word isn't UTF-8\n") {
-        Ok(words) => words,
-        Err(status) => return status,
+// Names the error of a write to standard output, if a write failed.
+fn report_write_error<E: Output>(alloc: Global, last: &LastError, err: &mut E) {
+    let Some(error) = last.get() else {
+        return;
     };
-    let Ok(texts) = texts_of(rt.alloc(), words.as_slice()) else {
-        return tell_memory(&mut err);
-    };
-    let mut out = ToWrite::new(io::writer(rt));
-    if let ["serve"] = texts.as_slice() {
-        let mut input = FromRead::new(rt.stdin());
-        return serve(
-            rt.alloc(),
-            &HostClock::new(rt),
-            &mut input,
-            &mut out,
-            &mut err,
-        );
+    if let Ok(line) = format!(in alloc; "cannot write: {error}\n") {
+        let _ = write_all(err, line.as_bytes());
     }
-    obey(
+}
+
+// Runs the command that the arguments ask for, or `serve`, over these outputs.
+fn run_words<O: Output, E: Output>(
+    rt: &HostRuntime,
+    words: &[&str],
+    out: &mut O,
+    err: &mut E,
+) -> Status {
+    if let ["serve"] = words {
+        let mut input = FromRead::new(rt.stdin());
+        let status = serve(rt.alloc(), &HostClock::new(rt), &mut input, out, err);
+        return Status::Exit(status);
+    }
+    let last = LastError::new();
+    obey_words(
         rt.alloc(),
         &HostClock::new(rt),
-        &HostFiles::new(rt, Some("-")),
-        texts.as_slice(),
-        &mut out,
-        &mut err,
+        &RecordedFiles::new(rt, &last),
+        words,
+        out,
+        err,
         rt.stderr().is_terminal() && !rt.stdout().is_terminal(),
     )
+}
+
+// Runs the program.
+fn run(rt: &HostRuntime) -> Status {
+    let last = LastError::new();
+    let mut err = ToWrite::new(SilencedErrors::new(rt, &last));
+    let words = match words_of(rt, &mut err, b"a word isn't UTF-8\n") {
+        Ok(words) => words,
+        Err(status) => return Status::Exit(status),
+    };
+    let Ok(texts) = texts_of(rt.alloc(), words.as_slice()) else {
+        return Status::Exit(tell_memory(&mut err));
+    };
+    let mut out = ToWrite::new(RecordedOutput::new(rt, &last));
+    let status = run_words(rt, texts.as_slice(), &mut out, &mut err);
+    report_write_error(rt.alloc(), &last, &mut err);
+    status
 }

@@ -1,8 +1,8 @@
 //! Messages for arguments that don't begin with a command.
 
-use crate::given::{Given, given_in};
+use crate::messages::{line_of, line_with};
+use crate::parsed_arguments::{ParsedArguments, parse_arguments};
 use crate::tasks::{of_word, of_words};
-use crate::telling::{line_of, line_with};
 use std::alloc::{AllocError, Global};
 
 // Returns the kinds that a command takes as its second word.
@@ -15,14 +15,14 @@ fn kinds_of(word: &str) -> Option<&'static str> {
 }
 
 // Describes what is missing or unexpected after a command of one word.
-fn line_behind(alloc: Global, given: &Given<'_>) -> Result<String, AllocError> {
+fn line_after_command(alloc: Global, given: &ParsedArguments<'_>) -> Result<String, AllocError> {
     match given.third {
         Some(word) => line_with(alloc, "unexpected argument ", word, ""),
         None => line_of(alloc, "the file is missing", "", ""),
     }
 }
 
-// Says that a word isn't one of these kinds.
+// Reports that a word isn't one of these kinds.
 fn kinds_line(alloc: Global, kind: &str, kinds: &str) -> Result<String, AllocError> {
     format!(in alloc; "{kind:?} isn't one of {kinds}")
 }
@@ -43,7 +43,7 @@ fn kind_line(
 
 // Describes why arguments aren't a command with a file.
 pub(crate) fn no_command_line(alloc: Global, words: &[&str]) -> Result<String, AllocError> {
-    let given = match given_in(words) {
+    let given = match parse_arguments(words) {
         Ok(given) => given,
         Err(_) => return line_of(alloc, "no command with a file after it", "", ""),
     };
@@ -56,5 +56,5 @@ pub(crate) fn no_command_line(alloc: Global, words: &[&str]) -> Result<String, A
     if of_word(word).is_none() {
         return line_with(alloc, "unknown command ", word, "");
     }
-    line_behind(alloc, &given)
+    line_after_command(alloc, &given)
 }

@@ -1,23 +1,29 @@
-//! What is done with a file that is read whole.
+//! The commands that read one file completely: `describe KIND` and `explain`.
 
-ghost use Rattle.std.specs.Prelude.{◌≡◌, ◌≤◌, IfOk, IfErr, OnOk};
+ghost use Rattle.std.specs.Prelude.{◌≡◌, ◌≤◌, false, IfOk, IfErr, OnOk};
 ghost use Rattle.cert_tool_explain.specs.DeskIo.Devices.{sink, source};
-ghost use Rattle.cert_tool_explain.specs.DeskIo.NamedInputs.{OfOpened, inputs};
+ghost use Rattle.cert_tool_explain.specs.DeskIo.NamedInputs.{inputs};
 ghost use Rattle.cert_tool_explain.specs.DeskIo.Whole.{IsWhole, most_octets};
-ghost use Rattle.cert_tool.specs.Explaining.{IsNotRead, IsSaid};
-ghost use Rattle.cert_tool.specs.TaskRuns.{IsFileDescribed, IsFileExplained, IsNotHad};
+ghost use Rattle.cert_tool.specs.Explaining.{IsUnreadReported, IsTextWritten, IsStatusBy};
+ghost use Rattle.cert_tool.specs.NamedFiles.{OnNamedFile};
+ghost use Rattle.cert_tool.specs.TaskRuns.{IsFileDescribed, IsFileExplained, IsUnreadable, of_kind};
+ghost use Rattle.cert_tool.specs.TaskRuns.{IsValidFile, wanted_of};
 
-use crate::files::{open, tell_failure};
+use crate::files::{open, report_failure};
+use crate::host_files::ErrorReasons;
 use crate::tasks::{Command, Task};
 use cert_tool_explain::desk_io::{
     ExitStatus, Input, NamedInputs, Output, ReadAllError, answer, complain, read_all, tell_device,
     tell_memory,
 };
-use cert_tool_explain::{Kind, describe, explain_anchors, explain_octets, explain_stream};
+use cert_tool_explain::{
+    Explained, Kind, describe, explain_anchors, explain_octets, explain_stream,
+};
+use cert_tool_pem::Wanted;
 use std::alloc::{AllocError, Global};
 
-// Returns what an input holds, to its end. Where it can't be had, that is reported, and the status
-// is the error.
+// Reads an input to its end. If that fails, `read_input` reports the reason and returns the exit
+// status as its error.
 pub(crate) fn read_input<I: Input, E: Output>(
     alloc: Global,
     input: &mut I,
@@ -28,7 +34,7 @@ pub(crate) fn read_input<I: Input, E: Output>(
         octets.items) }
     ensures untold { OnOk result (err.new ≡ err.old) }
     ensures unread { IfErr result
-        (IsNotRead (source I.takes I.is_ended I.failures input.old input.new)
+        (IsUnreadReported (source I.takes I.is_ended I.failures input.old input.new)
         (sink E.gives E.failures err.old err.new)) }
 {
     match read_all(alloc, input, u32::MAX) {
@@ -41,57 +47,76 @@ pub(crate) fn read_input<I: Input, E: Output>(
     }
 }
 
-// Returns what a file of this name holds; where it can't be read, that is reported.
-fn read_file<I: Input + Drop, F: NamedInputs<I>, E: Output>(
-    alloc: Global,
-    files: &F,
-    name: &str,
-    err: &mut E,
-) -> Result<Vec<u8>, ExitStatus>
-    ensures whole { IfOk result (λ octets. OfOpened
-        (inputs I.takes I.is_ended I.failures (F.is_opened files.now) (F.is_unopened files.now))
-        name.now (λ input. IsWhole input most_octets octets.items)) }
-    ensures unread { IfErr result (IsNotHad
-        (inputs I.takes I.is_ended I.failures (F.is_opened files.now) (F.is_unopened files.now))
-        name.now (sink E.gives E.failures err.old err.new)) }
+// Returns what a file of this kind must contain.
+fn of_kind(kind: Kind) -> Wanted
+    ensures { result ≡ of_kind kind }
 {
-    let mut input = open(alloc, files, name, err)?;
-    let octets = read_input(alloc, &mut input, err);
-    tell_failure(alloc, files, &input, name, err);
-    octets
-}
-
-// Writes a text to the output, or tells that there was no memory for it, and answers the exit
-// status.
-pub(crate) fn tell_text<O: Output, E: Output>(
-    text: Result<Vec<u8>, AllocError>,
-    out: &mut O,
-    err: &mut E,
-) -> ExitStatus
-    ensures { IsSaid (sink O.gives O.failures out.old out.new)
-        (sink E.gives E.failures err.old err.new) result }
-{
-    match text {
-        Ok(text) => answer(out, err, text.as_slice(), ExitStatus::Done),
-        Err(_) => tell_memory(err),
+    match kind {
+        Kind::Certificate => Wanted::Certificates,
+        Kind::List => Wanted::List,
+        Kind::Request => Wanted::Request,
     }
 }
 
-// `describe KIND`.
-pub(crate) fn describe_file<I: Input + Drop, F: NamedInputs<I>, O: Output, E: Output>(
+// Returns what the file of a command must contain.
+fn wanted_of(command: Command) -> Wanted
+    ensures { result ≡ wanted_of command }
+{
+    match command {
+        Command::Describe(kind) => of_kind(kind),
+        Command::Explain(kind) => of_kind(kind),
+        Command::ExplainAnchors => Wanted::Anchors,
+        _ => Wanted::Certificates,
+    }
+}
+
+// Opens and reads a file. If that fails, `read_file` reports the reason and returns the exit status
+// as its error.
+fn read_file<I: Input + Drop, F: NamedInputs<I> + ErrorReasons, E: Output>(
     alloc: Global,
     files: &F,
-    task: &Task<'_>,
-    kind: Kind,
-    out: &mut O,
+    wanted: Wanted,
+    name: &str,
     err: &mut E,
-) -> ExitStatus
+) -> Result<Vec<u8>, ExitStatus>
+    ensures whole { IfOk result (λ octets. OnNamedFile
+        (inputs I.takes I.is_ended I.failures (F.is_opened files.now) (F.is_unopened files.now))
+        (wanted, name.now) (λ input. IsWhole input most_octets octets.items)) }
+    ensures unread { IfErr result (IsUnreadable
+        (inputs I.takes I.is_ended I.failures (F.is_opened files.now) (F.is_unopened files.now))
+        (wanted, name.now) (sink E.gives E.failures err.old err.new)) }
+{
+    let mut input = open(alloc, files, wanted, name, err)?;
+    let octets = read_input(alloc, &mut input, err);
+    report_failure(alloc, files, &input, name, err);
+    octets
+}
+
+// Returns the exit status of an explanation: `Refused` if it has remarks and they are to fail the
+// run, else `Done`.
+pub(crate) fn status_by(fails: bool, has_remarks: bool) -> ExitStatus
+    ensures { IsStatusBy fails (has_remarks ≡ false) result }
+{
+    if fails && has_remarks {
+        ExitStatus::Refused
+    } else {
+        ExitStatus::Done
+    }
+}
+
+// Runs `describe KIND`.
+pub(crate) fn describe_file<
+    I: Input + Drop,
+    F: NamedInputs<I> + ErrorReasons,
+    O: Output,
+    E: Output,
+>(alloc: Global, files: &F, task: &Task<'_>, kind: Kind, out: &mut O, err: &mut E) -> ExitStatus
     ensures told { IsFileDescribed kind
         (inputs I.takes I.is_ended I.failures (F.is_opened files.now) (F.is_unopened files.now))
         (sink O.gives O.failures out.old out.new) (sink E.gives E.failures err.old err.new)
         task.now result }
 {
-    match read_file(alloc, files, task.file, err) {
+    match read_file(alloc, files, wanted_of(task.command), task.file, err) {
         Ok(octets) => describe(
             alloc,
             kind,
@@ -105,9 +130,11 @@ pub(crate) fn describe_file<I: Input + Drop, F: NamedInputs<I>, O: Output, E: Ou
     }
 }
 
-// Returns what explains bytes, as a task asks for.
-fn explanation(alloc: Global, octets: &[u8], task: &Task<'_>) -> Result<Vec<u8>, AllocError>
+// Returns the explanation of a file's bytes that the task asks for.
+fn explanation(alloc: Global, octets: &[u8], task: &Task<'_>) -> Result<Explained, AllocError>
     requires { 6 ≤ task.now.limit }
+    ensures { IfOk result (λ explained. explained.has_remarks ≡ false
+        → IsValidFile task.now.command octets.now) }
 {
     match task.command {
         Command::Explain(kind) => explain_octets(alloc, octets, kind, task.json),
@@ -116,8 +143,29 @@ fn explanation(alloc: Global, octets: &[u8], task: &Task<'_>) -> Result<Vec<u8>,
     }
 }
 
-// `explain KIND`, `explain anchors`, `explain stream`.
-pub(crate) fn explain_file<I: Input + Drop, F: NamedInputs<I>, O: Output, E: Output>(
+// Writes this explanation, or reports that memory ran out, and returns the exit status.
+fn write_explanation<O: Output, E: Output>(
+    alloc: Global,
+    octets: &[u8],
+    task: &Task<'_>,
+    out: &mut O,
+    err: &mut E,
+) -> ExitStatus
+    requires { 6 ≤ task.now.limit }
+    ensures { IsTextWritten task.now.fails_on_remark (IsValidFile task.now.command octets.now)
+        (sink O.gives O.failures out.old out.new) (sink E.gives E.failures err.old err.new) result }
+{
+    match explanation(alloc, octets, task) {
+        Ok(explained) => {
+            let status = status_by(task.fails_on_remark, explained.has_remarks);
+            answer(out, err, explained.text.as_slice(), status)
+        }
+        Err(_) => tell_memory(err),
+    }
+}
+
+// Runs `explain KIND`, `explain anchors` and `explain stream`.
+pub(crate) fn explain_file<I: Input + Drop, F: NamedInputs<I> + ErrorReasons, O: Output, E: Output>(
     alloc: Global,
     files: &F,
     task: &Task<'_>,
@@ -130,8 +178,8 @@ pub(crate) fn explain_file<I: Input + Drop, F: NamedInputs<I>, O: Output, E: Out
         (sink O.gives O.failures out.old out.new) (sink E.gives E.failures err.old err.new)
         task.now result }
 {
-    match read_file(alloc, files, task.file, err) {
-        Ok(octets) => tell_text(explanation(alloc, octets.as_slice(), task), out, err),
+    match read_file(alloc, files, wanted_of(task.command), task.file, err) {
+        Ok(octets) => write_explanation(alloc, octets.as_slice(), task, out, err),
         Err(status) => status,
     }
 }

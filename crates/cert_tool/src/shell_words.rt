@@ -1,8 +1,8 @@
-//! Texts as words of a command.
+//! Quoting of texts for a shell.
 
 use std::alloc::{AllocError, Global};
 
-// Returns whether a shell reads this byte as itself at each place of a word, and the word as it is.
+// Returns whether a shell reads this byte as itself at every position of a word.
 fn is_bare(octet: u8) -> bool {
     octet.is_ascii_alphanumeric()
         || matches!(
@@ -11,7 +11,8 @@ fn is_bare(octet: u8) -> bool {
         )
 }
 
-// Returns the text in single quotes, in which no character but that quote means more than itself.
+// Returns the text in single quotes. Between them a shell reads every character but a single quote
+// as itself.
 fn quoted(alloc: Global, text: &str) -> Result<String, AllocError> {
     let mut word = String::new(alloc);
     word.push('\'')?;
@@ -25,8 +26,8 @@ fn quoted(alloc: Global, text: &str) -> Result<String, AllocError> {
     Ok(word)
 }
 
-/// Returns the word that a shell reads as this text (POSIX 2.2), or nothing if a character isn't a
-/// printable one of ASCII: a terminal might act on it.
+/// Returns the word that a shell reads as this text (POSIX 2.2), or `None` if the text has a
+/// character that isn't printable ASCII, since a terminal might act on it.
 pub(crate) fn shell_word(alloc: Global, text: &str) -> Result<Option<String>, AllocError> {
     let octets = text.as_bytes();
     if !octets.is_empty() && octets.iter().all(|octet| is_bare(*octet)) {

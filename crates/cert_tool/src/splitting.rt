@@ -1,4 +1,4 @@
-//! Runs that take streams apart.
+//! The commands `split` and `reverse`.
 
 ghost use Rattle.std.specs.Prelude.{◌≡◌, ◌≢◌, ◌<◌, ◌≤◌, IfOk, length, string_bytes, true};
 ghost use Rattle.cert_tool_explain.specs.CertCertificates.Certificates.{subject};
@@ -10,10 +10,10 @@ ghost use Rattle.cert_tool_explain.specs.DeskBundle.Streams.{Kept};
 ghost use Rattle.cert_tool.specs.JsonTexts.{escaped_text};
 ghost use Rattle.cert_tool.specs.Splitting.{IsListed, IsReversed, IsTaken, comma_before};
 ghost use Rattle.cert_tool.specs.Splitting.{json_at, place_lines, places_text, reversed};
-ghost use Rattle.cert_tool.specs.Stops.{FedWithin};
+ghost use Rattle.cert_tool.specs.EarlyEnds.{FedWithin};
 
+use crate::early_end::report_outcome;
 use crate::json_texts::{escaped_text, place_object};
-use crate::stopping::tell_stop;
 use crate::stream_fault::stop_of;
 use cert_tool_explain::cert_certificates::CertificateInner;
 use cert_tool_explain::cert_names::Name;
@@ -23,7 +23,7 @@ use cert_tool_explain::desk_checking::read_stream;
 use cert_tool_explain::desk_io::{ExitStatus, Input, Output, answer, complain, tell_memory};
 use std::alloc::{AllocError, Global};
 
-// Returns a line for each certificate: its place, where it begins, and how many bytes it has.
+// Returns one line for each certificate: its index, its offset and its number of bytes.
 fn list_of(alloc: Global, bundle: &Bundle) -> Result<String, AllocError>
     ensures { IfOk result (λ text. string_bytes text ≡ place_lines bundle.now.certificates) }
 {
@@ -36,7 +36,7 @@ fn list_of(alloc: Global, bundle: &Bundle) -> Result<String, AllocError>
     Ok(text)
 }
 
-// Returns what comes before the object of a place.
+// Returns the comma before the object of a certificate, which the first one doesn't have.
 fn comma_before(place: usize) -> &'static str
     ensures { result.now ≡ comma_before place }
 {
@@ -44,15 +44,18 @@ fn comma_before(place: usize) -> &'static str
 }
 
 // Returns the text of a name (RFC 4514).
-fn name_text(alloc: Global, name: &Name) -> Result<String, AllocError>
+pub(crate) fn name_text(alloc: Global, name: &Name) -> Result<String, AllocError>
     ensures { IfOk result (λ text. string_bytes text ≡ name_text (name_plain name.now)) }
 {
     let text = name.to_string(alloc)?;
     Ok(text)
 }
 
-// Returns the text of a certificate's subject, as it is in a string of JSON.
-fn subject_of(alloc: Global, certificate: &CertificateInner<Raw>) -> Result<String, AllocError>
+// Returns the subject of a certificate, escaped for a JSON string.
+pub(crate) fn subject_of(
+    alloc: Global,
+    certificate: &CertificateInner<Raw>,
+) -> Result<String, AllocError>
     ensures { IfOk result (λ text. string_bytes text
         ≡ escaped_text (name_text (subject (certificate_plain certificate.now)))) }
 {
@@ -61,7 +64,7 @@ fn subject_of(alloc: Global, certificate: &CertificateInner<Raw>) -> Result<Stri
     Ok(text)
 }
 
-// Returns where the certificate at a place stands, and whose it is, as an object of JSON.
+// Returns the JSON object of the certificate at this index.
 fn json_at(alloc: Global, bundle: &Bundle, place: usize) -> Result<String, AllocError>
     requires { place < length bundle.now.certificates }
     ensures { IfOk result (λ text. string_bytes text ≡ json_at bundle.now.certificates place) }
@@ -73,7 +76,7 @@ fn json_at(alloc: Global, bundle: &Bundle, place: usize) -> Result<String, Alloc
     Ok(text)
 }
 
-// Returns where the certificates stand as JSON: an array of objects.
+// Returns the JSON array of the certificates.
 fn json_of(alloc: Global, bundle: &Bundle) -> Result<String, AllocError>
     ensures { IfOk result (λ text. string_bytes text ≡ places_text true bundle.now.certificates) }
 {
@@ -101,7 +104,7 @@ fn reversed(alloc: Global, bundle: &Bundle) -> Result<Vec<u8>, AllocError>
     Ok(octets)
 }
 
-// Returns where the certificates stand.
+// Returns the list of the certificates, as JSON or as lines.
 fn text_of(alloc: Global, bundle: &Bundle, json: bool) -> Result<String, AllocError>
     ensures { IfOk result (λ text. string_bytes text ≡ places_text json bundle.now.certificates) }
 {
@@ -112,8 +115,9 @@ fn text_of(alloc: Global, bundle: &Bundle, json: bool) -> Result<String, AllocEr
     }
 }
 
-// Writes where the certificates stand that were read of a stream, and tells what ended it.
-fn tell_places<O: Output, E: Output>(
+// Prints the list of the certificates that were read from a stream, and then reports what ended the
+// stream early.
+fn write_places<O: Output, E: Output>(
     alloc: Global,
     bundle: &Bundle,
     out: &mut O,
@@ -132,13 +136,13 @@ fn tell_places<O: Output, E: Output>(
         return status;
     }
     match stop_of(bundle) {
-        Some(outcome) => tell_stop(alloc, outcome, err),
+        Some(outcome) => report_outcome(alloc, outcome, err),
         None => ExitStatus::Done,
     }
 }
 
-// Writes the certificate at a place, of those that were read of a stream.
-fn tell_taken<O: Output, E: Output>(
+// Writes the certificate at this index, of those that were read from a stream.
+fn write_taken<O: Output, E: Output>(
     alloc: Global,
     bundle: &Bundle,
     out: &mut O,
@@ -153,7 +157,7 @@ fn tell_taken<O: Output, E: Output>(
         return answer(out, err, entry.octets, ExitStatus::Done);
     }
     match stop_of(bundle) {
-        Some(outcome) => tell_stop(alloc, outcome, err),
+        Some(outcome) => report_outcome(alloc, outcome, err),
         None => complain(
             err,
             b"no certificate has that index\n",
@@ -162,8 +166,8 @@ fn tell_taken<O: Output, E: Output>(
     }
 }
 
-// Writes the certificates that were read of a stream, the last one first.
-fn tell_reversed<O: Output, E: Output>(
+// Writes the certificates that were read from a stream, the last one first.
+fn write_reversed<O: Output, E: Output>(
     alloc: Global,
     bundle: &Bundle,
     out: &mut O,
@@ -174,7 +178,7 @@ fn tell_reversed<O: Output, E: Output>(
         (sink E.gives E.failures err.old err.new) bundle.now result }
 {
     if let Some(outcome) = stop_of(bundle) {
-        return tell_stop(alloc, outcome, err);
+        return report_outcome(alloc, outcome, err);
     }
     match reversed(alloc, bundle) {
         Ok(octets) => answer(out, err, octets.as_slice(), ExitStatus::Done),
@@ -182,12 +186,11 @@ fn tell_reversed<O: Output, E: Output>(
     }
 }
 
-/// Writes where each certificate of a stream stands, a line each: `PLACE OFFSET LENGTH`, in
-/// decimal. As JSON that is an array of objects, with the members `place`, `offset`, `length` and
-/// `subject`, the text of the name (RFC 4514).
+/// Prints the certificates of a stream, one line each: `PLACE OFFSET LENGTH`, in decimal. As JSON,
+/// it is an array of objects with the members `place`, `offset`, `length` and `subject` (RFC 4514).
 ///
-/// The certificates before a fault are listed too, and then the fault is reported on the error
-/// output.
+/// If the stream has an error, the certificates before it are listed, and then the error is
+/// reported on the error output.
 pub fn run_list<S: Input, O: Output, E: Output>(
     alloc: Global,
     stream: &mut S,
@@ -203,11 +206,11 @@ pub fn run_list<S: Input, O: Output, E: Output>(
         (sink E.gives E.failures err.old err.new) kept result }
 {
     let bundle = read_stream(alloc, limit, stream);
-    tell_places(alloc, &bundle, out, err, json)
+    write_places(alloc, &bundle, out, err, json)
 }
 
-/// Writes the bytes of the certificate at a place of a stream. Where it comes before a fault, the
-/// fault isn't told.
+/// Writes the bytes of the certificate at this index of a stream. An error after that certificate
+/// isn't reported.
 pub fn run_take<S: Input, O: Output, E: Output>(
     alloc: Global,
     stream: &mut S,
@@ -223,12 +226,12 @@ pub fn run_take<S: Input, O: Output, E: Output>(
         (sink E.gives E.failures err.old err.new) kept place result }
 {
     let bundle = read_stream(alloc, limit, stream);
-    tell_taken(alloc, &bundle, out, err, place)
+    write_taken(alloc, &bundle, out, err, place)
 }
 
-/// Writes the certificates of a stream, the last one first: a chain that begins with the
-/// end entity's certificate, as TLS sends it, becomes one that begins below the anchor, and the
-/// other way round.
+/// Writes the certificates of a stream, the last one first. This turns a chain in the order of TLS,
+/// which begins with the end-entity certificate, into one that begins with the certificate that the
+/// trust anchor issued, and back.
 pub fn run_reverse<S: Input, O: Output, E: Output>(
     alloc: Global,
     stream: &mut S,
@@ -243,5 +246,5 @@ pub fn run_reverse<S: Input, O: Output, E: Output>(
         (sink E.gives E.failures err.old err.new) kept result }
 {
     let bundle = read_stream(alloc, limit, stream);
-    tell_reversed(alloc, &bundle, out, err)
+    write_reversed(alloc, &bundle, out, err)
 }

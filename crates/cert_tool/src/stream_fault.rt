@@ -1,12 +1,13 @@
-//! What is said of a stream that isn't a chain.
+//! The errors of a stream that isn't a chain.
 ghost use Rattle.std.specs.Prelude.{◌≡◌, ◌≢◌};
-ghost use Rattle.cert_tool.specs.Stops.{stop_of};
+ghost use Rattle.cert_tool.specs.EarlyEnds.{stop_of};
 
 use cert_tool_explain::desk_bundle::{Bundle, Standing};
 use cert_tool_explain::desk_checking::Outcome;
 use cert_tool_explain::desk_rules::{Checked, Verdict};
 
-// Returns why a bundle holds no whole stream with a certificate in it, if it doesn't.
+// Returns the reason why a bundle isn't a complete stream with at least one certificate, if it
+// isn't.
 pub(crate) fn stop_of(bundle: &Bundle) -> Option<Outcome>
     requires { bundle.now.standing ≢ Standing.Open }
     ensures { result ≡ stop_of bundle.now }

@@ -1,21 +1,23 @@
-//! What is done with a stream.
+//! The commands that read a stream of certificates: `split`, `reverse` and `describe stream`.
 
 ghost use Rattle.std.specs.Prelude.{◌≤◌};
 ghost use Rattle.cert_tool_explain.specs.DeskIo.Devices.{sink, source};
 ghost use Rattle.cert_tool_explain.specs.DeskIo.NamedInputs.{inputs};
 ghost use Rattle.cert_tool_explain.specs.DeskBundle.Streams.{Kept};
-ghost use Rattle.cert_tool.specs.Stops.{FedWithin};
-ghost use Rattle.cert_tool.specs.TaskRuns.{IsEachDescribed, IsSplitAt, IsSplit, IsTurned};
+ghost use Rattle.cert_tool.specs.EarlyEnds.{FedWithin};
+ghost use Rattle.cert_tool.specs.TaskRuns.{IsEachDescribed, IsSplitAt, IsSplit, IsStreamReversed};
 
 use crate::each_certificate::{Form, run_describe};
-use crate::files::{open, tell_failure};
+use crate::files::{open, report_failure};
+use crate::host_files::ErrorReasons;
+use crate::messages::hint_at_stream;
 use crate::splitting::{run_list, run_reverse, run_take};
 use crate::tasks::Task;
-use crate::telling::tell_fault;
 use cert_tool_explain::desk_io::{ExitStatus, Input, NamedInputs, Output};
+use cert_tool_pem::{FileInput, Wanted};
 use std::alloc::Global;
 
-// Lists the certificates of an input, or writes one.
+// Lists the certificates of an input, or writes one of them.
 fn split_input<I: Input, O: Output, E: Output>(
     alloc: Global,
     stream: &mut I,
@@ -36,24 +38,22 @@ fn split_input<I: Input, O: Output, E: Output>(
     }
 }
 
-// Tells what failed and what tells more. That a read failed is reported where the certificate that
-// was asked for wasn't had.
-fn tell_behind<I, F: NamedInputs<I>, E: Output>(
+// Names the file in which a read failed, and prints a hint. `split --place` names it even if the
+// certificate was read and written before.
+fn report_after<I: Input, F: NamedInputs<I> + ErrorReasons, E: Output>(
     alloc: Global,
     files: &F,
-    stream: &I,
+    stream: &FileInput<I>,
     task: &Task<'_>,
     status: ExitStatus,
     err: &mut E,
 ) {
-    if status == ExitStatus::Device {
-        tell_failure(alloc, files, stream, task.file, err);
-    }
-    tell_fault(alloc, task, status, err);
+    report_failure(alloc, files, stream, task.file, err);
+    hint_at_stream(alloc, task, status, err);
 }
 
-// `split`.
-pub(crate) fn split<I: Input + Drop, F: NamedInputs<I>, O: Output, E: Output>(
+// Runs `split`.
+pub(crate) fn split<I: Input + Drop, F: NamedInputs<I> + ErrorReasons, O: Output, E: Output>(
     alloc: Global,
     files: &F,
     task: &Task<'_>,
@@ -66,17 +66,17 @@ pub(crate) fn split<I: Input + Drop, F: NamedInputs<I>, O: Output, E: Output>(
         (sink O.gives O.failures out.old out.new) (sink E.gives E.failures err.old err.new)
         task.now result }
 {
-    let mut stream = match open(alloc, files, task.file, err) {
+    let mut stream = match open(alloc, files, Wanted::Certificates, task.file, err) {
         Ok(stream) => stream,
         Err(status) => return status,
     };
     let status = split_input(alloc, &mut stream, task, out, err);
-    tell_behind(alloc, files, &stream, task, status, err);
+    report_after(alloc, files, &stream, task, status, err);
     status
 }
 
-// `reverse`.
-pub(crate) fn reverse<I: Input + Drop, F: NamedInputs<I>, O: Output, E: Output>(
+// Runs `reverse`.
+pub(crate) fn reverse<I: Input + Drop, F: NamedInputs<I> + ErrorReasons, O: Output, E: Output>(
     alloc: Global,
     files: &F,
     task: &Task<'_>,
@@ -84,22 +84,28 @@ pub(crate) fn reverse<I: Input + Drop, F: NamedInputs<I>, O: Output, E: Output>(
     err: &mut E,
 ) -> ExitStatus
     requires { 6 ≤ task.now.limit }
-    ensures told { IsTurned
+    ensures told { IsStreamReversed
         (inputs I.takes I.is_ended I.failures (F.is_opened files.now) (F.is_unopened files.now))
         (sink O.gives O.failures out.old out.new) (sink E.gives E.failures err.old err.new)
         task.now result }
 {
-    let mut stream = match open(alloc, files, task.file, err) {
+    let mut stream = match open(alloc, files, Wanted::Certificates, task.file, err) {
         Ok(stream) => stream,
         Err(status) => return status,
     };
     let status = run_reverse(alloc, &mut stream, out, err, task.limit);
-    tell_behind(alloc, files, &stream, task, status, err);
+    report_after(alloc, files, &stream, task, status, err);
     status
 }
 
-// `describe stream`. A fault or a failed read is reported where it ended the descriptions.
-pub(crate) fn describe_each<I: Input + Drop, F: NamedInputs<I>, O: Output, E: Output>(
+// Runs `describe stream`. An error of the stream or of a read is reported if it ended the
+// descriptions.
+pub(crate) fn describe_each<
+    I: Input + Drop,
+    F: NamedInputs<I> + ErrorReasons,
+    O: Output,
+    E: Output,
+>(
     alloc: Global,
     files: &F,
     task: &Task<'_>,
@@ -113,7 +119,7 @@ pub(crate) fn describe_each<I: Input + Drop, F: NamedInputs<I>, O: Output, E: Ou
         (sink O.gives O.failures out.old out.new) (sink E.gives E.failures err.old err.new)
         task.now result }
 {
-    let mut stream = match open(alloc, files, task.file, err) {
+    let mut stream = match open(alloc, files, Wanted::Certificates, task.file, err) {
         Ok(stream) => stream,
         Err(status) => return status,
     };
@@ -124,6 +130,6 @@ pub(crate) fn describe_each<I: Input + Drop, F: NamedInputs<I>, O: Output, E: Ou
         is_watched,
     };
     let status = run_describe(&form, &mut stream, out, err, task.limit);
-    tell_behind(alloc, files, &stream, task, status, err);
+    report_after(alloc, files, &stream, task, status, err);
     status
 }

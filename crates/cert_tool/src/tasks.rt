@@ -1,103 +1,113 @@
-//! What words ask for.
+//! Parses the arguments into a task: a command, its file and its options.
 
-ghost use Rattle.std.specs.Prelude.{◌≡◌, ◌≤◌, IfOk, IfErr, OnOk, map};
+ghost use Rattle.std.specs.Prelude.{◌≡◌, ◌≤◌, ◌<◌, ◌^◌, ℕ, IfOk, IfErr, IfSome, IfNone, OnOk, map};
 ghost use Rattle.std.specs.Prelude.{unwrap_or, is_some};
-ghost use Rattle.cert_tool.specs.Words.{given_plain, value_of};
+ghost use Rattle.cert_tool.specs.ParsedArguments.{arguments_plain, value_of};
 ghost use Rattle.cert_tool.specs.Tasks.{kind_of, of_word, of_described, of_explained};
 ghost use Rattle.cert_tool.specs.Tasks.{of_words, judges, asks, reads_stream, need_of, Keeps};
-ghost use Rattle.cert_tool.specs.Tasks.{KeepsAll, KeepsEach, IsTask, IsAmiss, AsksFor};
-ghost use Rattle.cert_tool.specs.Tasks.{is_standard, shares_input, IsPlace, IsNoValue};
+ghost use Rattle.cert_tool.specs.Tasks.{KeepsAll, KeepsEach, IsTask, IsOptionError, AsksFor};
+ghost use Rattle.cert_tool.specs.Tasks.{is_standard_input, shares_input, IsPlace, IsWrongValue};
 ghost use Rattle.cert_tool.specs.Tasks.{command_in, plain_command, describes, tells};
-ghost use Rattle.cert_tool.specs.Tasks.{is_octets_in_json, IsMisuse, IsMoment, IsPurpose};
-ghost use Rattle.cert_tool.specs.Tasks.{IsLimit, moment_text, purpose_text, limit_text};
+ghost use Rattle.cert_tool.specs.Tasks.{is_bytes_in_json, IsMisuse, IsTimeText, IsPurpose};
+ghost use Rattle.cert_tool.specs.Tasks.{IsLimit, time_text, purpose_text, limit_text};
+ghost use Rattle.cert_tool.specs.Tasks.{IsDays, IsHostOf, remarks, verifies};
+ghost use Rattle.cert_tool_explain.specs.DeskChecking.Arguments.{IsNumber};
 
-use crate::arguments::{Moment, moment_in, purpose_in};
-use crate::given::{Given, Key, WordFault, given_in};
+use crate::option_values::{Moment, parse_time, purpose_in};
+use crate::parsed_arguments::{ArgumentError, Key, ParsedArguments, parse_arguments};
 use cert_tool_explain::Kind;
 use cert_tool_explain::desk_checking::{limit_in, number_in};
 use cert_tool_explain::oid::ObjectIdentifier;
+use cert_tool_limits::Demands;
+use cert_tool_limits::hosts::Host;
 
-/// What is done.
+/// A command of the program.
 #[derive(Clone, Copy)]
 pub enum Command {
-    /// What a verifier has to answer is written.
+    /// `questions`: prints what a verifier must check.
     Questions,
-    /// A chain is judged by answers.
+    /// `verify`: validates a chain with a verifier's answers.
     Verify,
-    /// Certificates are listed, or one is written.
+    /// `split`: lists certificates, or writes one.
     Split,
-    /// Certificates are written in the other order.
+    /// `reverse`: writes certificates in the reverse order.
     Reverse,
-    /// What a file says is written.
+    /// `describe KIND`: prints the contents of a file.
     Describe(Kind),
-    /// What each certificate of a stream says is written.
+    /// `describe stream`: prints the contents of each certificate of a stream.
     DescribeStream,
-    /// Why bytes are rejected is written.
+    /// `explain KIND`: prints why a file can't be decoded.
     Explain(Kind),
-    /// Why anchors are rejected is written.
+    /// `explain anchors`: prints why trust anchors are rejected.
     ExplainAnchors,
-    /// Why a stream is rejected is written.
+    /// `explain stream`: prints why a stream is rejected.
     ExplainStream,
-    /// Which rules a chain breaks is written.
+    /// `explain chain`: prints which rules a chain breaks.
     ExplainChain,
 }
 
-/// Whether a command has an option.
+/// Whether a command takes an option.
 #[derive(Clone, Copy)]
 pub enum Need {
-    /// The option must be given.
+    /// The option is required.
     Needed,
-    /// The option may be given.
+    /// The option is optional.
     Allowed,
-    /// The option may not be given.
+    /// The command doesn't take the option.
     Barred,
 }
 
-/// What is wrong with words.
+/// An error in the arguments.
 #[derive(Clone, Copy)]
 pub enum Misuse<'a> {
-    /// An option or another word is wrong.
-    Words(WordFault<'a>),
-    /// The words that are neither options nor values aren't a command with a file after it.
+    /// An option or another argument is wrong.
+    Words(ArgumentError<'a>),
+    /// The arguments that are neither options nor values aren't a command and a file.
     NoCommand,
-    /// The command needs this option.
+    /// The command requires this option.
     Missing(Key),
-    /// The command doesn't have this option.
+    /// The command doesn't take this option.
     Excess(Key),
-    /// The option may not have this value.
+    /// This value of the option is wrong.
     Wrong(Key, &'a str),
-    /// One certificate is wanted, and JSON.
-    OctetsInJson,
+    /// `--json` is given for the bytes of one certificate.
+    BytesInJson,
     /// Two files are standard input.
     SharedInput,
 }
 
-/// What words ask for, with all that is read of them.
+/// A command with its file and its options.
 #[derive(Clone, Copy)]
 pub struct Task<'a> {
-    /// What is done.
+    /// The command.
     pub command: Command,
-    /// The file of a stream, or of the value that is described or explained.
+    /// The file of the stream, or the file to describe or explain.
     pub file: &'a str,
-    /// The file of the anchors; empty where the command has none.
+    /// The file of the trust anchors; empty if the command takes none.
     pub anchors: &'a str,
-    /// The file of the answers; empty where the command has none.
+    /// The file of the answers; empty if the command takes none.
     pub answers: &'a str,
-    /// The validation time of a chain.
+    /// The validation time.
     pub moment: Moment,
-    /// The key purpose: what a chain is wanted for.
+    /// The key purpose of the end entity.
     pub purpose: ObjectIdentifier<39>,
-    /// The most bytes that a certificate of a stream may have.
+    /// The maximum number of bytes of a certificate.
     pub limit: u32,
-    /// The place of the certificate that is written.
+    /// The index of the certificate to write.
     pub place: Option<u64>,
-    /// Whether what is written is JSON (RFC 8259).
+    /// Whether the program prints JSON (RFC 8259).
     pub json: bool,
-    /// Whether digests are reported too.
+    /// Whether descriptions include digests.
     pub digests: bool,
+    /// Whether the first certificate of the chain's PEM file is the end entity's, as TLS sends it.
+    pub leaf_first: bool,
+    /// Whether the exit status is 1 if there is a remark.
+    pub fails_on_remark: bool,
+    /// What a trusted chain must meet beyond the rules of path validation.
+    pub demands: Demands<'a>,
 }
 
-// Returns the kind that a word names.
+// Returns the kind with this name.
 fn kind_of(word: &str) -> Option<Kind>
     ensures { result ≡ kind_of word.now }
 {
@@ -109,7 +119,7 @@ fn kind_of(word: &str) -> Option<Kind>
     }
 }
 
-// Returns the command of a word.
+// Returns the command with this name, if it is one word.
 pub(crate) fn of_word(word: &str) -> Option<Command>
     ensures { result ≡ of_word word.now }
 {
@@ -122,7 +132,7 @@ pub(crate) fn of_word(word: &str) -> Option<Command>
     }
 }
 
-// Returns the command that describes what a word names.
+// Returns the `describe` command for a kind.
 fn of_described(kind: &str) -> Option<Command>
     ensures { result ≡ of_described kind.now }
 {
@@ -135,7 +145,7 @@ fn of_described(kind: &str) -> Option<Command>
     }
 }
 
-// Returns the command that explains what a word names.
+// Returns the `explain` command for a kind.
 fn of_explained(kind: &str) -> Option<Command>
     ensures { result ≡ of_explained kind.now }
 {
@@ -150,7 +160,7 @@ fn of_explained(kind: &str) -> Option<Command>
     }
 }
 
-// Returns the command of a word and what it is of.
+// Returns the command of two words.
 pub(crate) fn of_words(word: &str, kind: &str) -> Option<Command>
     ensures { result ≡ of_words word.now kind.now }
 {
@@ -161,9 +171,9 @@ pub(crate) fn of_words(word: &str, kind: &str) -> Option<Command>
     }
 }
 
-// Returns the command that the words between options name, and the file that follows it.
-fn command_in<'a>(given: &Given<'a>) -> Option<(Command, &'a str)>
-    ensures { plain_command result ≡ command_in (given_plain given.now) }
+// Returns the command and the file that the arguments name.
+fn command_in<'a>(given: &ParsedArguments<'a>) -> Option<(Command, &'a str)>
+    ensures { plain_command result ≡ command_in (arguments_plain given.now) }
 {
     let Some(word) = given.first else {
         return None;
@@ -184,21 +194,28 @@ fn command_in<'a>(given: &Given<'a>) -> Option<(Command, &'a str)>
 }
 
 impl Command {
-    // Returns whether it judges a chain.
+    // Returns whether the command validates a chain.
     fn judges(self) -> bool
         ensures { result ≡ judges self }
     {
         matches!(self, Command::Verify | Command::ExplainChain)
     }
 
-    // Returns whether it needs anchors.
+    // Returns whether the command prints the verdict on a chain.
+    fn verifies(self) -> bool
+        ensures { result ≡ verifies self }
+    {
+        matches!(self, Command::Verify)
+    }
+
+    // Returns whether the command requires trust anchors.
     fn asks(self) -> bool
         ensures { result ≡ asks self }
     {
         matches!(self, Command::Questions) || self.judges()
     }
 
-    // Returns whether it reads certificates one after another.
+    // Returns whether the command reads a stream of certificates.
     fn reads_stream(self) -> bool
         ensures { result ≡ reads_stream self }
     {
@@ -208,21 +225,28 @@ impl Command {
         ) || self.asks()
     }
 
-    // Returns whether it describes something.
+    // Returns whether the command prints a description.
     fn describes(self) -> bool
         ensures { result ≡ describes self }
     {
         matches!(self, Command::Describe(_) | Command::DescribeStream)
     }
 
-    // Returns whether it writes texts of its own.
+    // Returns whether the command prints remarks.
+    fn remarks(self) -> bool
+        ensures { result ≡ remarks self }
+    {
+        matches!(self, Command::Explain(_) | Command::ExplainChain)
+    }
+
+    // Returns whether the command prints text that can be JSON.
     fn tells(self) -> bool
         ensures { result ≡ tells self }
     {
         !matches!(self, Command::Questions | Command::Reverse)
     }
 
-    // Returns whether it has this option.
+    // Returns whether the command takes this option.
     fn need_of(self, key: Key) -> Need
         ensures { result ≡ need_of self key }
     {
@@ -235,15 +259,21 @@ impl Command {
             Key::Place => (matches!(self, Command::Split), Need::Allowed),
             Key::Json => (self.tells(), Need::Allowed),
             Key::Digests => (self.describes(), Need::Allowed),
+            Key::LeafFirst => (self.asks(), Need::Allowed),
+            Key::Strict => (self.judges(), Need::Allowed),
+            Key::Host => (self.judges(), Need::Allowed),
+            Key::WarnDays => (self.verifies(), Need::Allowed),
+            Key::FailOnRemark => (self.remarks(), Need::Allowed),
         };
         if has { need } else { Need::Barred }
     }
 
-    // Whether an option is given where it must be, and isn't where it may not be.
-    fn keeps<'a>(self, file: &str, given: &Given<'a>, key: Key) -> Result<(), Misuse<'a>>
-        ensures kept { OnOk result (Keeps self (given_plain given.now) key) }
+    // Checks one option: it is given if it is required, and not given if the command doesn't take
+    // it.
+    fn keeps<'a>(self, file: &str, given: &ParsedArguments<'a>, key: Key) -> Result<(), Misuse<'a>>
+        ensures kept { OnOk result (Keeps self (arguments_plain given.now) key) }
         ensures amiss { IfErr result (λ misuse.
-            IsAmiss self file.now (given_plain given.now) misuse) }
+            IsOptionError self file.now (arguments_plain given.now) misuse) }
     {
         let is_given = is_given(given, key);
         match self.need_of(key) {
@@ -262,11 +292,16 @@ impl Command {
         Ok(())
     }
 
-    // Whether that is so of each of these options.
-    fn keeps_each<'a>(self, file: &str, given: &Given<'a>, keys: &[Key]) -> Result<(), Misuse<'a>>
-        ensures kept { OnOk result (KeepsEach self (given_plain given.now) keys.now) }
+    // Checks each of these options.
+    fn keeps_each<'a>(
+        self,
+        file: &str,
+        given: &ParsedArguments<'a>,
+        keys: &[Key],
+    ) -> Result<(), Misuse<'a>>
+        ensures kept { OnOk result (KeepsEach self (arguments_plain given.now) keys.now) }
         ensures amiss { IfErr result (λ misuse.
-            IsAmiss self file.now (given_plain given.now) misuse) }
+            IsOptionError self file.now (arguments_plain given.now) misuse) }
     {
         let [key, rest @ ..] = keys else {
             return Ok(());
@@ -275,11 +310,11 @@ impl Command {
         self.keeps_each(file, given, rest)
     }
 
-    // Whether that is so of all options.
-    fn keeps_all<'a>(self, file: &str, given: &Given<'a>) -> Result<(), Misuse<'a>>
-        ensures kept { OnOk result (KeepsAll self (given_plain given.now)) }
+    // Checks all options.
+    fn keeps_all<'a>(self, file: &str, given: &ParsedArguments<'a>) -> Result<(), Misuse<'a>>
+        ensures kept { OnOk result (KeepsAll self (arguments_plain given.now)) }
         ensures amiss { IfErr result (λ misuse.
-            IsAmiss self file.now (given_plain given.now) misuse) }
+            IsOptionError self file.now (arguments_plain given.now) misuse) }
     {
         self.keeps_each(
             file,
@@ -293,14 +328,19 @@ impl Command {
                 Key::Place,
                 Key::Json,
                 Key::Digests,
+                Key::LeafFirst,
+                Key::Strict,
+                Key::Host,
+                Key::WarnDays,
+                Key::FailOnRemark,
             ],
         )
     }
 }
 
-// Returns whether a name is that of standard input.
-fn is_standard(name: &str) -> bool
-    ensures { result ≡ is_standard name.now }
+// Returns whether a file name means standard input.
+fn is_standard_input(name: &str) -> bool
+    ensures { result ≡ is_standard_input name.now }
 {
     name == "-"
 }
@@ -310,52 +350,52 @@ fn shares_input(anchors: &str, answers: &str, file: &str) -> bool
     ensures { result ≡ shares_input anchors.now answers.now file.now }
 {
     let (anchors, answers, file) = (
-        is_standard(anchors),
-        is_standard(answers),
-        is_standard(file),
+        is_standard_input(anchors),
+        is_standard_input(answers),
+        is_standard_input(file),
     );
     (anchors && answers) || (anchors && file) || (answers && file)
 }
 
-// Returns the value of an option, or what stands for it where it is left out.
-fn text_of<'a>(given: &Given<'a>, key: Key, default: &'a str) -> &'a str
-    ensures { result.now ≡ unwrap_or (value_of key (given_plain given.now)) default.now }
+// Returns the value of an option, or its default.
+fn text_of<'a>(given: &ParsedArguments<'a>, key: Key, default: &'a str) -> &'a str
+    ensures { result.now ≡ unwrap_or (value_of key (arguments_plain given.now)) default.now }
 {
     given.value_of(key).unwrap_or(default)
 }
 
-// Returns the validation time that is asked for; the text that is none is the error.
-fn moment_of<'a>(given: &Given<'a>) -> Result<Moment, &'a str>
-    ensures read { IfOk result (λ moment. IsMoment moment (moment_text (given_plain given.now))) }
-    ensures amiss { IfErr result (λ text. IsNoValue Key.At text.now (given_plain given.now)) }
+// Returns the validation time. The error is the text that can't be parsed.
+fn time_of<'a>(given: &ParsedArguments<'a>) -> Result<Moment, &'a str>
+    ensures read { IfOk result (λ moment. IsTimeText moment (time_text (arguments_plain given.now))) }
+    ensures amiss { IfErr result (λ text. IsWrongValue Key.At text.now (arguments_plain given.now)) }
 {
     let text = text_of(given, Key::At, "now");
-    moment_in(text).ok_or(text)
+    parse_time(text).ok_or(text)
 }
 
-// Returns the key purpose that is asked for; the text that is none is the error.
-fn purpose_of<'a>(given: &Given<'a>) -> Result<ObjectIdentifier<39>, &'a str>
+// Returns the key purpose. The error is the text that can't be parsed.
+fn purpose_of<'a>(given: &ParsedArguments<'a>) -> Result<ObjectIdentifier<39>, &'a str>
     ensures read { IfOk result (λ purpose.
-        IsPurpose purpose (purpose_text (given_plain given.now))) }
-    ensures amiss { IfErr result (λ text. IsNoValue Key.Purpose text.now (given_plain given.now)) }
+        IsPurpose purpose (purpose_text (arguments_plain given.now))) }
+    ensures amiss { IfErr result (λ text. IsWrongValue Key.Purpose text.now (arguments_plain given.now)) }
 {
     let text = text_of(given, Key::Purpose, "serverAuth");
     purpose_in(text).map_err(|_| text)
 }
 
-// Returns the most bytes that are asked for; the text that is no such number is the error.
-fn limit_of<'a>(given: &Given<'a>) -> Result<u32, &'a str>
-    ensures read { IfOk result (λ limit. IsLimit limit (limit_text (given_plain given.now))) }
-    ensures amiss { IfErr result (λ text. IsNoValue Key.Limit text.now (given_plain given.now)) }
+// Returns the maximum number of bytes of a certificate. The error is the text that can't be parsed.
+fn limit_of<'a>(given: &ParsedArguments<'a>) -> Result<u32, &'a str>
+    ensures read { IfOk result (λ limit. IsLimit limit (limit_text (arguments_plain given.now))) }
+    ensures amiss { IfErr result (λ text. IsWrongValue Key.Limit text.now (arguments_plain given.now)) }
 {
     let text = text_of(given, Key::Limit, "65536");
     limit_in(text).ok_or(text)
 }
 
-// Returns the place that is asked for, if one is; the text that is none is the error.
-fn place_in<'a>(given: &Given<'a>) -> Result<Option<u64>, &'a str>
-    ensures read { IfOk result (λ place. IsPlace place (given_plain given.now).place) }
-    ensures amiss { IfErr result (λ text. IsNoValue Key.Place text.now (given_plain given.now)) }
+// Returns the index of one certificate, if it is given. The error is the text that can't be parsed.
+fn place_in<'a>(given: &ParsedArguments<'a>) -> Result<Option<u64>, &'a str>
+    ensures read { IfOk result (λ place. IsPlace place (arguments_plain given.now).place) }
+    ensures amiss { IfErr result (λ text. IsWrongValue Key.Place text.now (arguments_plain given.now)) }
 {
     let Some(text) = given.place else {
         return Ok(None);
@@ -366,41 +406,91 @@ fn place_in<'a>(given: &Given<'a>) -> Result<Option<u64>, &'a str>
     Ok(Some(place))
 }
 
+// Returns the host, if it is given. The error is the text that can't be parsed.
+fn host_in<'a>(given: &ParsedArguments<'a>) -> Result<Option<Host<'a>>, &'a str>
+    ensures read { IfOk result (λ host. IsHostOf host (arguments_plain given.now).host) }
+    ensures amiss { IfErr result (λ text. IsWrongValue Key.Host text.now (arguments_plain given.now)) }
+{
+    let Some(text) = given.host else {
+        return Ok(None);
+    };
+    let Some(host) = Host::parse(text) else {
+        return Err(text);
+    };
+    Ok(Some(host))
+}
+
+// Parses a number of days.
+#[tactic(auto, unfolding(crate::specs::Opened::IsNumber))]
+fn days_of(text: &str) -> Option<u32>
+    ensures read { IfSome result (λ n. IsNumber n text.now) }
+    ensures none { IfNone result ((n : ℕ) → IsNumber n text.now → n < 2 ^ 32 → ⊥) }
+{
+    let Some(days) = number_in(text) else {
+        return None;
+    };
+    if days > u64::from(u32::MAX) {
+        return None;
+    }
+    Some(days as u32)
+}
+
+// Returns the number of days of `--warn-days`, if it is given. The error is the text that can't be
+// parsed.
+fn days_in<'a>(given: &ParsedArguments<'a>) -> Result<Option<u32>, &'a str>
+    ensures read { IfOk result (λ days. IsDays days (arguments_plain given.now).warn_days) }
+    ensures amiss { IfErr result (λ text. IsWrongValue Key.WarnDays text.now (arguments_plain given.now)) }
+{
+    let Some(text) = given.warn_days else {
+        return Ok(None);
+    };
+    let Some(days) = days_of(text) else {
+        return Err(text);
+    };
+    Ok(Some(days))
+}
+
 // Returns whether an option is given.
-fn is_given(given: &Given<'_>, key: Key) -> bool
-    ensures { result ≡ is_some (value_of key (given_plain given.now)) }
+fn is_given(given: &ParsedArguments<'_>, key: Key) -> bool
+    ensures { result ≡ is_some (value_of key (arguments_plain given.now)) }
 {
     given.value_of(key).is_some()
 }
 
-// Returns whether one certificate is wanted, and JSON.
-fn is_octets_in_json(given: &Given<'_>) -> bool
-    ensures { result ≡ is_octets_in_json (given_plain given.now) }
+// Returns whether `--json` is given for the bytes of one certificate.
+fn is_bytes_in_json(given: &ParsedArguments<'_>) -> bool
+    ensures { result ≡ is_bytes_in_json (arguments_plain given.now) }
 {
     is_given(given, Key::Place) && is_given(given, Key::Json)
 }
 
-// Returns what a command asks for of a file, under options that it may have.
-fn task_of<'a>(command: Command, file: &'a str, given: &Given<'a>) -> Result<Task<'a>, Misuse<'a>>
-    requires kept { KeepsAll command (given_plain given.now) }
+// Returns the task of a command with its file and options.
+fn task_of<'a>(
+    command: Command,
+    file: &'a str,
+    given: &ParsedArguments<'a>,
+) -> Result<Task<'a>, Misuse<'a>>
+    requires kept { KeepsAll command (arguments_plain given.now) }
     ensures read { IfOk result (λ task.
-        IsTask command file.now (given_plain given.now) task) }
+        IsTask command file.now (arguments_plain given.now) task) }
     ensures limit { IfOk result (λ task. 6 ≤ task.limit) }
     ensures amiss { IfErr result (λ misuse.
-        IsAmiss command file.now (given_plain given.now) misuse) }
+        IsOptionError command file.now (arguments_plain given.now) misuse) }
 {
     let anchors = text_of(given, Key::Anchors, "");
     let answers = text_of(given, Key::Answers, "");
     if shares_input(anchors, answers, file) {
         return Err(Misuse::SharedInput);
     }
-    if is_octets_in_json(given) {
-        return Err(Misuse::OctetsInJson);
+    if is_bytes_in_json(given) {
+        return Err(Misuse::BytesInJson);
     }
-    let moment = moment_of(given).map_err(|text| Misuse::Wrong(Key::At, text))?;
+    let moment = time_of(given).map_err(|text| Misuse::Wrong(Key::At, text))?;
     let purpose = purpose_of(given).map_err(|text| Misuse::Wrong(Key::Purpose, text))?;
     let limit = limit_of(given).map_err(|text| Misuse::Wrong(Key::Limit, text))?;
     let place = place_in(given).map_err(|text| Misuse::Wrong(Key::Place, text))?;
+    let host = host_in(given).map_err(|text| Misuse::Wrong(Key::Host, text))?;
+    let warn_days = days_in(given).map_err(|text| Misuse::Wrong(Key::WarnDays, text))?;
     Ok(Task {
         command,
         file,
@@ -412,25 +502,37 @@ fn task_of<'a>(command: Command, file: &'a str, given: &Given<'a>) -> Result<Tas
         place,
         json: is_given(given, Key::Json),
         digests: is_given(given, Key::Digests),
+        leaf_first: is_given(given, Key::LeafFirst),
+        fails_on_remark: is_given(given, Key::FailOnRemark),
+        demands: Demands {
+            host,
+            is_strict: is_given(given, Key::Strict),
+            warn_days,
+        },
     })
 }
 
 impl<'a> Task<'a> {
-    /// Returns what these words ask for, of those after the program's name.
+    /// Parses the arguments that follow the program's name.
     ///
-    /// Options stand anywhere, each with its value after it, or after `=` in the same word. Where
-    /// they are left out `--at` is `now`, `--purpose` is `serverAuth`, and `--limit` is 65536.
+    /// Options may be anywhere. The value of an option is the next argument, or follows `=` in the
+    /// same one. The default of `--at` is `now`, that of `--purpose` is `serverAuth`, and that of
+    /// `--limit` is 65536.
     ///
     /// # Errors
     ///
-    /// What is wrong: with options, then with the command, with options that it needs or doesn't
-    /// have, with their values.
+    /// The first of these that applies:
+    ///
+    /// - `Words`: an option or another argument is wrong.
+    /// - `NoCommand`: the other arguments aren't a command and a file.
+    /// - `Missing`, `Excess`: the command requires the option, or doesn't take it.
+    /// - `Wrong`, `BytesInJson`, `SharedInput`: a value is wrong, or values exclude each other.
     pub fn parse(words: &[&'a str]) -> Result<Task<'a>, Misuse<'a>>
         ensures read { IfOk result (AsksFor (map (λ word. word.now) words.now)) }
         ensures limit { IfOk result (λ task. 6 ≤ task.limit) }
         ensures refused { IfErr result (IsMisuse (map (λ word. word.now) words.now)) }
     {
-        let given = match given_in(words) {
+        let given = match parse_arguments(words) {
             Ok(given) => given,
             Err(fault) => return Err(Misuse::Words(fault)),
         };

@@ -1,23 +1,28 @@
-//! Runs that judge a chain by answers.
+//! The command `verify`: validates a chain with a verifier's answers.
 
 ghost use Rattle.std.specs.Prelude.{◌≡◌, ◌≤◌, map, IfOk, IfErr, Ok, Err, string_bytes};
 ghost use Rattle.cert_tool_explain.specs.DeskIo.Devices.{sink, source};
 ghost use Rattle.cert_tool_explain.specs.DeskRules.Answers.{answer_plain};
-ghost use Rattle.cert_tool.specs.TaskRuns.{IsJudged};
-ghost use Rattle.cert_tool.specs.Verifying.{AreAnswers, IsNoneTold, IsToldAs, wrong_line};
-ghost use Rattle.cert_tool.specs.Verifying.{verdict_json, verdict_text};
+ghost use Rattle.cert_tool.specs.TaskRuns.{IsValidated};
+ghost use Rattle.cert_tool.specs.Verifying.{AreAnswers, IsMissingAnswersReported, IsVerdictReported, wrong_line};
+ghost use Rattle.cert_tool.specs.Verifying.{verdict_json, verdict_line, verdict_text};
 
-use crate::arguments::Terms;
-use crate::stopping::tell_stop;
+use crate::demand_reports::report_chain;
+use crate::early_end::report_outcome;
+use crate::end_entity::{end_entity_text, end_entity_with, trusted_text};
+use crate::option_values::Terms;
+use crate::status::Status;
 use cert_desk_answers::{LineFault, NoAnswers, answers_in};
-use cert_tool_explain::desk_checking::{Outcome, find_outcome, status_of, verdict_line};
+use cert_tool_explain::desk_bundle::Bundle;
+use cert_tool_explain::desk_checking::{Outcome, status_of, verdict_line};
 use cert_tool_explain::desk_io::{
     ExitStatus, Input, Output, ReadAllError, answer, complain, read_all, tell_device, tell_memory,
 };
 use cert_tool_explain::desk_rules::{Answer, AnswersJudge, Checked, Verdict};
+use cert_tool_limits::find_validated;
 use std::alloc::{AllocError, Global};
 
-/// The inputs of a chain that is judged.
+/// The inputs of a chain that is validated.
 #[derive(Drop)]
 pub struct Opened<I> {
     pub answers: I,
@@ -25,11 +30,14 @@ pub struct Opened<I> {
     pub stream: I,
 }
 
-/// Returns the answers that an input gives, to its end, as `answers_in` reads them.
+/// Reads the answers from an input, to its end.
 ///
 /// # Errors
 ///
-/// The errors of `answers_in`; `TooMuch`, where one more byte than 2^32 - 1 is taken; `Device`.
+/// - `Line`: a line is wrong, as `answers_in` returns it.
+/// - `TooMuch`: the input has 2^32 bytes or more.
+/// - `Device`: a read fails.
+/// - `OutOfMemory`: an allocation fails.
 pub fn read_answers<N: Input>(alloc: Global, answers: &mut N) -> Result<Vec<Answer>, NoAnswers>
     ensures read { IfOk result (λ read. AreAnswers
         (source N.takes N.is_ended N.failures answers.old answers.new)
@@ -47,16 +55,16 @@ pub fn read_answers<N: Input>(alloc: Global, answers: &mut N) -> Result<Vec<Answ
     Ok(answers)
 }
 
-// Returns what is said of a file whose line of this number has this fault.
+// Returns the message for an error in the line of this number.
 fn fault_line(alloc: Global, number: u64, fault: LineFault) -> Result<String, AllocError>
     ensures { IfOk result (λ text. string_bytes text ≡ wrong_line number fault) }
 {
     format!(in alloc; "answers: line {number}: {fault}\n")
 }
 
-/// Tells why there aren't answers, in one line, and answers the status.
-pub fn tell_none<E: Output>(alloc: Global, none: NoAnswers, err: &mut E) -> ExitStatus
-    ensures { IsNoneTold (sink E.gives E.failures err.old err.new) none result }
+/// Reports why there are no answers, in one line, and returns the exit status.
+pub fn report_none<E: Output>(alloc: Global, none: NoAnswers, err: &mut E) -> ExitStatus
+    ensures { IsMissingAnswersReported (sink E.gives E.failures err.old err.new) none result }
 {
     match none {
         NoAnswers::Line { number, fault } => match fault_line(alloc, number, fault) {
@@ -73,16 +81,24 @@ pub fn tell_none<E: Output>(alloc: Global, none: NoAnswers, err: &mut E) -> Exit
     }
 }
 
-// Returns what is said of a verdict as JSON.
-fn verdict_json(alloc: Global, checked: Checked) -> Result<String, AllocError>
+// Returns the JSON object of a verdict.
+fn verdict_json(
+    alloc: Global,
+    bundle: &Bundle,
+    checked: Checked,
+    unjudged: &str,
+) -> Result<String, AllocError>
     ensures { IfOk result (λ text. string_bytes text
-        ≡ verdict_json checked.verdict checked.calls) }
+        ≡ verdict_json unjudged.now bundle.now.certificates checked.verdict checked.calls) }
 {
     let calls = checked.calls;
     match checked.verdict {
-        Verdict::Trusted => { format!(in alloc; "{{\"verdict\":\"trusted\",\"calls\":{calls}}}\n") }
+        Verdict::Trusted => {
+            let whom = end_entity_with(alloc, bundle, true, unjudged)?;
+            trusted_text(alloc, whom.as_str(), calls, true)
+        }
         Verdict::Refused { place, rule } => format!(in alloc;
-            "{{\"verdict\":\"refused\",\"place\":{place},\"rule\":\"{rule}\",\"calls\":{calls}}}\n"
+            "{{\"verdict\":\"refused\",\"place\":{place},\"rule\":\"{rule}\",\"calls\":{calls}{unjudged}}}\n"
         ),
         Verdict::StreamFault {
             place,
@@ -95,72 +111,97 @@ fn verdict_json(alloc: Global, checked: Checked) -> Result<String, AllocError>
     }
 }
 
-// Returns what is said of a verdict, as JSON or as a line.
-fn verdict_text(alloc: Global, checked: Checked, json: bool) -> Result<String, AllocError>
+// Returns the line of a verdict.
+fn line_of(alloc: Global, bundle: &Bundle, checked: Checked) -> Result<String, AllocError>
     ensures { IfOk result (λ text. string_bytes text
-        ≡ verdict_text json checked.verdict checked.calls) }
+        ≡ verdict_line bundle.now.certificates checked.verdict checked.calls) }
 {
-    if json {
-        verdict_json(alloc, checked)
-    } else {
-        verdict_line(alloc, checked)
+    match checked.verdict {
+        Verdict::Trusted => {
+            let whom = end_entity_text(alloc, bundle, false)?;
+            trusted_text(alloc, whom.as_str(), checked.calls, false)
+        }
+        Verdict::Refused { .. } => verdict_line(alloc, checked),
+        Verdict::StreamFault { .. } => verdict_line(alloc, checked),
+        Verdict::Empty => verdict_line(alloc, checked),
     }
 }
 
-// Tells an outcome, and answers the status.
-fn tell_outcome<O: Output, E: Output>(
+// Returns the report on a verdict, as JSON or as a line.
+fn verdict_text(
     alloc: Global,
-    outcome: Outcome,
+    bundle: &Bundle,
+    checked: Checked,
     json: bool,
+    unjudged: &str,
+) -> Result<String, AllocError>
+    ensures { IfOk result (λ text. string_bytes text
+        ≡ verdict_text json unjudged.now bundle.now.certificates checked.verdict checked.calls) }
+{
+    if json {
+        verdict_json(alloc, bundle, checked, unjudged)
+    } else {
+        line_of(alloc, bundle, checked)
+    }
+}
+
+// Reports a verdict, and returns the exit status. `unjudged` is the member of a JSON object with
+// what no rule checks.
+pub(crate) fn report_verdict<O: Output, E: Output>(
+    alloc: Global,
+    bundle: &Bundle,
+    checked: Checked,
+    json: bool,
+    unjudged: &str,
     out: &mut O,
     err: &mut E,
 ) -> ExitStatus
-    ensures { IsToldAs json (sink O.gives O.failures out.old out.new)
-        (sink E.gives E.failures err.old err.new) outcome result }
+    ensures { IsVerdictReported json unjudged.now bundle.now.certificates
+        (sink O.gives O.failures out.old out.new) (sink E.gives E.failures err.old err.new) checked
+        result }
 {
-    match outcome {
-        Outcome::Checked(checked) => match verdict_text(alloc, checked, json) {
-            Ok(text) => answer(out, err, text.as_bytes(), status_of(checked.verdict)),
-            Err(_) => tell_memory(err),
-        },
-        Outcome::BadAnchors { .. } => tell_stop(alloc, outcome, err),
-        Outcome::Device => tell_stop(alloc, outcome, err),
-        Outcome::OutOfMemory => tell_stop(alloc, outcome, err),
+    match verdict_text(alloc, bundle, checked, json, unjudged) {
+        Ok(text) => answer(out, err, text.as_bytes(), status_of(checked.verdict)),
+        Err(_) => tell_memory(err),
     }
 }
 
-/// Judges the stream of one input under the anchors of another as `run_check` does, by a judge that
-/// says yes to the answers of a third, and no to all else. The verdict is reported in a line, or as
-/// JSON: an object with the members `verdict`, `place`, `rule`, `offset`, `kind` and `calls`, of
-/// which it has those that its line has.
+/// Validates the stream of one input under the trust anchors of another, as `run_check` of
+/// `cert_desk_checking` does. A signature is valid if a third input, the answers, says so. The
+/// verdict is reported as a line, or as a JSON object with those of the members `verdict`, `place`,
+/// `rule`, `offset`, `kind` and `calls` that its line has, and with what no rule checks.
 ///
-/// The answers are read first, as `read_answers` reads them. Where there are none, that is
-/// reported, `are_read` becomes false, and nothing else is touched.
+/// A trusted chain must then meet the demands. If it doesn't, it is reported as refused, with the
+/// name of the limit instead of a rule. If it ends soon, a second line, or the member `ends`, says
+/// so.
+///
+/// The answers are read first, by `read_answers`. If they can't be read, the reason is reported,
+/// `are_read` becomes false, and the other inputs aren't read.
 pub fn run_verify<I: Input, O: Output, E: Output>(
     alloc: Global,
     inputs: &mut Opened<I>,
     out: &mut O,
     err: &mut E,
-    terms: Terms,
+    terms: &Terms<'_>,
     are_read: &mut bool,
-) -> ExitStatus
-    requires { 6 ≤ terms.limit }
-    ensures judged { IsJudged
+) -> Status
+    requires { 6 ≤ terms.now.limit }
+    ensures judged { IsValidated
         (source I.takes I.is_ended I.failures inputs.old.answers inputs.new.answers)
         (source I.takes I.is_ended I.failures inputs.old.anchors inputs.new.anchors)
         (source I.takes I.is_ended I.failures inputs.old.stream inputs.new.stream)
         (sink O.gives O.failures out.old out.new) (sink E.gives E.failures err.old err.new)
-        terms.moment terms.purpose terms.limit terms.is_json result }
+        terms.now result }
 {
     let answers = match read_answers(alloc, &mut inputs.answers) {
         Ok(answers) => answers,
         Err(none) => {
             *are_read = false;
-            return tell_none(alloc, none, err);
+            return Status::Exit(report_none(alloc, none, err));
         }
     };
     let mut judge = AnswersJudge::new(answers);
-    let outcome = find_outcome(
+    match find_validated(
         alloc,
         &mut inputs.anchors,
         &mut inputs.stream,
@@ -168,6 +209,17 @@ pub fn run_verify<I: Input, O: Output, E: Output>(
         &terms.purpose,
         terms.limit,
         &mut judge,
-    );
-    tell_outcome(alloc, outcome, terms.is_json, out, err)
+    ) {
+        Ok((octets, bundle, checked)) => report_chain(
+            alloc,
+            octets.as_slice(),
+            &bundle,
+            checked,
+            terms,
+            &mut judge,
+            out,
+            err,
+        ),
+        Err(error) => Status::Exit(report_outcome(alloc, Outcome::from(error), err)),
+    }
 }

@@ -1,6 +1,8 @@
-//! The contents of extensions, each by its identifier.
+//! Prints the contents of extensions, by object identifier.
 
+use crate::content_parts::unsupported_content;
 use crate::described::add_content;
+use crate::other_contents::add_other_content;
 use crate::timestamps::timestamps_fault;
 use crate::values::{add_value_of, read_members};
 use cert_tool_lines::Lines;
@@ -23,48 +25,69 @@ use x509_cert_kinds::ExtensionKind as Kind;
 use x509_cert_lists::cert_names::Attribute;
 use x509_cert_lists::der::{Error, ErrorKind};
 
-// Adds the line of a content of no kind that is known.
+// Adds a line with content that isn't decoded.
 fn add_octets(lines: &mut Lines, octets: &[u8]) {
     lines.octets_row("octets", "octets", octets);
 }
 
-// Adds that a content isn't what it should be, and its bytes.
+// Adds that content is malformed, and its bytes.
 pub fn add_malformed(lines: &mut Lines, octets: &[u8], kind: ErrorKind) {
     lines.malformed("malformed", kind);
     add_octets(lines, octets);
 }
 
-// Adds the bytes of a content that isn't read, and the text or the identifier that they spell.
+// Adds that content is malformed, or that it is valid but isn't supported.
+fn add_fault(lines: &mut Lines, kind: Kind, octets: &[u8], error: &Error) {
+    match unsupported_content(lines.alloc, kind, octets, error) {
+        Ok("") => lines.malformed("malformed", error.kind),
+        Ok(words) => lines.text_row("not read here:", "unread", words),
+        Err(_) => lines.fail(),
+    }
+    add_octets(lines, octets);
+}
+
+// Adds the bytes of content that isn't decoded, and the text or the object identifier that they
+// encode, if they do.
 fn add_unread(lines: &mut Lines, octets: &[u8]) -> Option<Error> {
     add_octets(lines, octets);
     add_value_of(lines, octets);
     None
 }
 
-// Adds the lines of the content of an extension (RFC 5280 4.2.1, 4.2.2, 5.2, 5.3, RFC 6962 3.3,
-// RFC 7633); answers why it isn't one value of its kind.
+// Adds the lines of content for which the library has no type.
+fn add_other(lines: &mut Lines, extension: &Extension) -> Option<Error> {
+    let octets = extension.extn_value.as_bytes();
+    if add_other_content(lines, extension.extn_id.as_bytes(), octets) {
+        return None;
+    }
+    add_unread(lines, octets)
+}
+
+// Adds the lines of the content of an extension (RFC 5280 4.2.1, 4.2.2, 5.2, 5.3, RFC 6962 3.3, RFC
+// 7633). Returns the error if the content is malformed.
 fn add_content_of(lines: &mut Lines, extension: &Extension) -> Option<Error> {
     let octets = extension.extn_value.as_bytes();
     let Some(kind) = Kind::of(&extension.extn_id) else {
-        return add_unread(lines, octets);
+        return add_other(lines, extension);
     };
     match kind {
         Kind::SubjectDirectoryAttributes => add_unread(lines, octets),
         Kind::SubjectKeyIdentifier => add_content::<SubjectKeyIdentifier>(lines, octets),
         Kind::KeyUsage => add_content::<KeyUsage>(lines, octets),
         Kind::PrivateKeyUsagePeriod => add_content::<PrivateKeyUsagePeriod>(lines, octets),
-        // of the subject, of the issuer, of who issued the certificate that an entry names
+        // The names of the subject, of the issuer, and of the issuer of the certificate that an
+        // entry revokes.
         Kind::SubjectAltName | Kind::IssuerAltName | Kind::CertificateIssuer => add_content::<
             Vec<GeneralName>,
         >(lines, octets),
         Kind::BasicConstraints => add_content::<BasicConstraints>(lines, octets),
-        // of a list, of the list that it adds to
+        // The number of a CRL, and that of the base CRL of a delta CRL.
         Kind::CrlNumber | Kind::DeltaCrlIndicator => add_content::<CrlNumber>(lines, octets),
         Kind::CrlReason => add_content::<CrlReason>(lines, octets),
         Kind::InvalidityDate => add_content::<GeneralizedTime>(lines, octets),
         Kind::IssuingDistributionPoint => add_content::<IssuingDistributionPoint>(lines, octets),
         Kind::NameConstraints => add_content::<NameConstraints>(lines, octets),
-        // of lists, of lists of what is new
+        // The distribution points of CRLs, and of delta CRLs.
         Kind::CrlDistributionPoints | Kind::FreshestCrl => add_content::<CrlDistributionPoints>(
             lines, octets,
         ),
@@ -84,19 +107,19 @@ fn add_content_of(lines: &mut Lines, extension: &Extension) -> Option<Error> {
     }
 }
 
-// Returns why bytes aren't attributes, if they aren't (RFC 5280 4.2.1.8).
+// Returns the error if the bytes aren't attributes (RFC 5280 4.2.1.8).
 fn attributes_fault(alloc: Global, octets: &[u8]) -> Option<Error> {
     read_members::<Attribute>(alloc, octets).err()
 }
 
-/// Returns why the content of an extension isn't one value of its kind, if it isn't, and the kind
-/// is known.
+/// Returns the error if the content of an extension of a known kind is malformed.
 pub fn content_fault(alloc: Global, extension: &Extension) -> Option<Error> {
     let octets = extension.extn_value.as_bytes();
     match Kind::of(&extension.extn_id) {
         Some(Kind::SubjectDirectoryAttributes) => attributes_fault(alloc, octets),
         Some(Kind::SignedCertificateTimestamps) => timestamps_fault(alloc, octets),
-        _ => add_content_of(&mut Lines::new(alloc, false), extension),
+        None => None,
+        Some(_) => add_content_of(&mut Lines::new(alloc, false), extension),
     }
 }
 
@@ -106,12 +129,14 @@ fn add_extension(lines: &mut Lines, extension: &Extension) {
     lines.members_of(&extension.extn_id);
     lines.mark("critical", "critical", extension.critical);
     if let Some(error) = add_content_of(lines, extension) {
-        add_malformed(lines, extension.extn_value.as_bytes(), error.kind);
+        if let Some(kind) = Kind::of(&extension.extn_id) {
+            add_fault(lines, kind, extension.extn_value.as_bytes(), &error);
+        }
     }
     lines.close();
 }
 
-// Adds the lines of extensions, in their order.
+// Adds the lines of extensions, in order.
 pub fn add_extensions(lines: &mut Lines, key: &str, extensions: &[Extension]) {
     lines.list(key);
     for extension in extensions {

@@ -1,4 +1,4 @@
-//! Values that descriptions have lines of.
+//! Traits of the values that can be described.
 ghost use Rattle.std.specs.Prelude.{◌≢◌, List, ℕ, IfErr, IfNone, IfSome, OnOk};
 ghost use Rattle.x509_cert_lists.specs.Der.ErrorTypes.ErrorKind.TheVariants.{OutOfMemory};
 
@@ -8,14 +8,15 @@ use x509_cert_lists::der::{Error, ErrorKind};
 
 /// The content of an extension, or a key.
 pub trait Describe: Sized {
-    /// Returns the content that bytes encode. Each type's reading is checked here alone.
+    /// Decodes the value. Each type implements this separately, so that its decoding is checked in
+    /// one function.
     fn read_content(alloc: Global, octets: &[u8]) -> Result<Self, Error>;
 
-    // Adds its lines.
+    // Adds the lines of the value.
     fn describe(&self, lines: &mut Lines);
 }
 
-// Adds the lines of a content; answers why bytes encode none, if they don't.
+// Adds the lines of encoded content, or returns the error if it is malformed.
 pub fn add_content<T: Describe + Drop>(lines: &mut Lines, octets: &[u8]) -> Option<Error> {
     match T::read_content(lines.alloc, octets) {
         Ok(content) => {
@@ -26,22 +27,22 @@ pub fn add_content<T: Describe + Drop>(lines: &mut Lines, octets: &[u8]) -> Opti
     }
 }
 
-/// What fills a file: a certificate, a CRL or a CSR.
+/// A value that a file contains: a certificate, a CRL or a CSR.
 pub trait DescribeFile: Sized {
-    /// Whether bytes encode one.
+    /// The bytes are the encoding of a value of the type.
     ghost is_spelled: { List ℕ → Type 0 };
 
-    /// Returns the value that bytes encode.
+    /// Decodes the value.
     fn read_file(alloc: Global, octets: &[u8]) -> Result<Self, Error>
         ensures spelled { OnOk result (is_spelled octets.now) }
         ensures refused { IfErr result (λ e. e.kind ≢ OutOfMemory → is_spelled octets.now → ⊥) };
 
-    // Adds its lines, and those of the digests of its bytes and of its key.
+    // Adds the lines of the value, and those of the digests of its encoding and of its key.
     fn describe_file(&self, lines: &mut Lines, octets: &[u8]);
 }
 
-// Adds what bytes say, and their digests; answers why they aren't a value of the type, if they
-// aren't. Any value is held here, since a check takes long of what holds a certificate.
+// Adds the description of a file with its digests, or returns the error if it is malformed. The
+// function is generic because the proof of a function that holds a certificate takes long.
 pub fn add_file<T: DescribeFile + Drop>(lines: &mut Lines, octets: &[u8]) -> Option<ErrorKind>
     ensures spelled { IfNone result (T.is_spelled octets.now) }
     ensures refused { IfSome result (λ kind. kind ≢ OutOfMemory → T.is_spelled octets.now → ⊥) }

@@ -15,7 +15,7 @@ use std::alloc::Global;
 use x509_cert_certificates::{CertificateInner, TbsCertificateInner};
 use x509_cert_lists::der::{Error, ErrorKind};
 
-// Adds the line of what is described, and of its version.
+// Adds a line with the kind of the value and its version.
 pub fn add_kind(lines: &mut Lines, kind: &str, version: Version) {
     lines.text_row("", "kind", kind);
     lines.count_row(
@@ -29,14 +29,14 @@ pub fn add_kind(lines: &mut Lines, kind: &str, version: Version) {
     );
 }
 
-// Adds an identifier of issuer or subject, if it is there.
+// Adds issuerUniqueID or subjectUniqueID, if it is present.
 fn add_unique(lines: &mut Lines, word: &str, key: &str, id: &Option<BitString>) {
     if let Some(id) = id {
         lines.octets_row(word, key, id.raw_bytes());
     }
 }
 
-// Adds the lines of who signs whom, and from when until when.
+// Adds the lines of the issuer, the validity period and the subject.
 fn add_parties(lines: &mut Lines, signed: &TbsCertificateInner<Raw>) {
     lines.number_row("serial", "serialNumber", signed.serial_number().as_bytes());
     add_algorithm(lines, "algorithm", "signature", signed.signature());
@@ -46,7 +46,7 @@ fn add_parties(lines: &mut Lines, signed: &TbsCertificateInner<Raw>) {
     add_name(lines, "subject", "subject", signed.subject());
 }
 
-// Adds the lines of the signed part.
+// Adds the lines of the TBSCertificate.
 fn add_signed(lines: &mut Lines, signed: &TbsCertificateInner<Raw>) {
     add_kind(lines, "certificate", signed.version());
     add_parties(lines, signed);
@@ -76,8 +76,8 @@ impl DescribeFile for CertificateInner<Raw> {
     }
 }
 
-/// Adds what a certificate says, and digests of its bytes and of its key; answers why the bytes are
-/// none, if they aren't.
+/// Adds the description of a certificate, with digests of its encoding and of its key, or returns
+/// the error if it can't be decoded.
 pub fn add_certificate(lines: &mut Lines, octets: &[u8]) -> Option<ErrorKind>
     ensures spelled { IfNone result (IsCertificate octets.now) }
     ensures refused { IfSome result (λ kind. kind ≢ OutOfMemory → IsCertificate octets.now → ⊥) }

@@ -1,4 +1,4 @@
-//! Names of the kinds that extensions have (RFC 5280 4.2.1.6).
+//! Prints general names (RFC 5280 4.2.1.6).
 
 ghost use Rattle.std.specs.Prelude.{◌≡◌, length};
 
@@ -12,7 +12,7 @@ use x509_cert_lists::cert_names::DirectoryString;
 use x509_cert_lists::der::Error;
 use x509_cert_lists::der::making::read_whole;
 
-// Adds an address of four bytes.
+// Adds an IPv4 address.
 fn add_short(lines: &mut Lines, octets: &[u8], behind: &str)
     requires { length octets.now ≡ 4 }
 {
@@ -21,7 +21,7 @@ fn add_short(lines: &mut Lines, octets: &[u8], behind: &str)
     lines.show("", Ipv4Addr::from(address), behind);
 }
 
-// Adds an address of 16 bytes.
+// Adds an IPv6 address.
 fn add_long(lines: &mut Lines, octets: &[u8], behind: &str)
     requires { length octets.now ≡ 16 }
 {
@@ -30,7 +30,7 @@ fn add_long(lines: &mut Lines, octets: &[u8], behind: &str)
     lines.show("", Ipv6Addr::from(address), behind);
 }
 
-// Adds an address, or one and its mask (RFC 5280 4.2.1.10).
+// Adds an address, or an address with its mask (RFC 5280 4.2.1.10).
 fn add_address(lines: &mut Lines, octets: &[u8]) {
     if octets.len() == 4 {
         add_short(lines, octets, "");
@@ -48,7 +48,7 @@ fn add_address(lines: &mut Lines, octets: &[u8]) {
     }
 }
 
-// Adds the text of a member of a name, whatever type of string it has.
+// Adds a member with the text of a DirectoryString of any string type.
 fn add_string(lines: &mut Lines, key: &str, text: &DirectoryString) {
     lines.key(key);
     match text {
@@ -60,7 +60,7 @@ fn add_string(lines: &mut Lines, key: &str, text: &DirectoryString) {
     }
 }
 
-// Adds the name of a party, and who assigned it.
+// Adds the name of a party, and the authority that assigned it.
 fn add_party(lines: &mut Lines, party: &EdiPartyName) {
     add_string(lines, "partyName", &party.party_name);
     if let Some(assigner) = &party.name_assigner {
@@ -69,8 +69,8 @@ fn add_party(lines: &mut Lines, party: &EdiPartyName) {
     }
 }
 
-// Returns the word and the key of a name's kind.
-fn kind_of(name: &GeneralName) -> (&'static str, &'static str) {
+/// Returns the words and the JSON key for the kind of a name.
+pub fn kind_of(name: &GeneralName) -> (&'static str, &'static str) {
     match name {
         GeneralName::Rfc822Name(_) => ("email", "rfc822Name"),
         GeneralName::DnsName(_) => ("DNS", "dNSName"),
@@ -83,7 +83,7 @@ fn kind_of(name: &GeneralName) -> (&'static str, &'static str) {
     }
 }
 
-// Adds the members of a name that has some.
+// Adds the members of a name that is a structure.
 fn add_members(lines: &mut Lines, name: &GeneralName) {
     match name {
         GeneralName::EdiPartyName(party) => add_party(lines, party),
@@ -97,7 +97,7 @@ fn add_members(lines: &mut Lines, name: &GeneralName) {
     }
 }
 
-/// Adds a name of any kind, as the member of that kind.
+/// Adds a name of any kind, as a member with the key of that kind.
 pub fn add_general_name(lines: &mut Lines, name: &GeneralName) {
     let (word, key) = kind_of(name);
     lines.word(word);
@@ -119,7 +119,7 @@ pub fn add_general_name(lines: &mut Lines, name: &GeneralName) {
     }
 }
 
-// Adds a line for each name, which a word begins.
+// Adds a line for each name, which begins with this word.
 pub fn add_general_names(lines: &mut Lines, word: &str, key: &str, listed: &[GeneralName]) {
     lines.list(key);
     for name in listed {

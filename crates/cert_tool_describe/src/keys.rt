@@ -1,9 +1,11 @@
-//! Keys, and digests.
+//! Prints keys and digests.
 
-use crate::algorithms::add_members as add_algorithm;
+use crate::algorithms::{add_bit_row, add_malformed_parameters, add_members as add_algorithm};
 use crate::contents::add_malformed;
+use crate::curves::curve_bits;
 use crate::described::{Describe, add_content};
-use crate::values::{add_value, list_in, read_members, values_in};
+use crate::values::{add_value, inside, list_in, noted, read_members};
+use base64::engine::general_purpose::STANDARD;
 use cert_tool_lines::cert_parts::SubjectPublicKeyInfo;
 use cert_tool_lines::types::{Any, Uint};
 use cert_tool_lines::{Lines, known_name};
@@ -14,7 +16,7 @@ use x509_cert_lists::der::making::leaf_from_der;
 use x509_cert_lists::der::{Error, ErrorKind, Tag, ToDer};
 use x509_cert_lists::oid::ObjectIdentifier;
 
-// Returns the number of bits of a number, of its bytes with the most significant first.
+// Returns the number of bits of a big-endian number.
 fn bit_len(octets: &[u8]) -> usize {
     match octets {
         [] => 0,
@@ -25,19 +27,19 @@ fn bit_len(octets: &[u8]) -> usize {
     }
 }
 
-// Adds a line for a number of bits.
-fn add_bits(lines: &mut Lines, bits: usize) {
-    lines.count_row("", "bits", bits as u64);
+// Adds a line with a number of bits.
+fn add_bits(lines: &mut Lines, bits: u64) {
+    lines.count_row("", "bits", bits);
     lines.word("bits");
 }
 
-// Adds a line for a number of a key.
+// Adds a line with a number of a key.
 fn add_natural(lines: &mut Lines, name: &str, octets: &[u8]) {
     lines.row(name, name);
     lines.natural(octets);
 }
 
-// Adds a line for bytes of a key.
+// Adds a line with bytes of a key.
 fn add_octets(lines: &mut Lines, name: &str, octets: &[u8]) {
     lines.octets_row(name, name, octets);
 }
@@ -51,7 +53,7 @@ impl Describe for Vec<Uint> {
     fn describe(&self, lines: &mut Lines) {
         match self.as_slice() {
             [modulus, exponent] => {
-                add_bits(lines, bit_len(modulus.as_bytes()));
+                add_bits(lines, bit_len(modulus.as_bytes()) as u64);
                 add_natural(lines, "modulus", modulus.as_bytes());
                 add_natural(lines, "exponent", exponent.as_bytes());
             }
@@ -60,22 +62,63 @@ impl Describe for Vec<Uint> {
     }
 }
 
-// Returns the number of bits of a coordinate of a point: its form tells whether one is there,
-// compressed, or two, uncompressed or hybrid (X9.62 4.3.6).
-fn coordinate_bits(octets: &[u8]) -> usize {
-    let len = match octets {
-        [2 | 3, rest @ ..] => rest.len(),
-        [4 | 6 | 7, rest @ ..] => rest.len() / 2,
-        _ => 0,
+// Returns whether a value is an INTEGER that isn't negative.
+fn is_natural(lines: &mut Lines, value: &Any) -> bool {
+    let number = value.decode_as::<Uint>(lines.alloc);
+    noted(lines, number).is_some()
+}
+
+// The field type prime-field (X9.62 6.1).
+const PRIME_FIELD: &[u8] = &[0x2a, 0x86, 0x48, 0xce, 0x3d, 1, 1];
+
+// Returns whether values are the type and the parameters of a field.
+fn is_field(lines: &mut Lines, field: &[Any]) -> bool {
+    let [kind, parameters] = field else {
+        return false;
     };
-    if len == 66 {
-        521
-    } else {
-        len.saturating_mul(8)
+    let kind = kind.decode_as::<ObjectIdentifier<39>>(lines.alloc);
+    match noted(lines, kind) {
+        Some(kind) => kind.as_bytes() != PRIME_FIELD || is_natural(lines, parameters),
+        None => false,
     }
 }
 
-// Adds the line of a field, which is that of a prime, or laid down otherwise.
+// Returns whether values are the coefficients of an equation, with or without a seed.
+fn are_coefficients(curve: &[Any]) -> bool {
+    let seed = match curve {
+        [a, b, seed @ ..] if is_string(a) && is_string(b) => seed,
+        _ => return false,
+    };
+    match seed {
+        [] => true,
+        [seed] => seed.tag() == Tag::BitString,
+        _ => false,
+    }
+}
+
+// Returns whether a value is an OCTET STRING.
+fn is_string(value: &Any) -> bool {
+    value.tag() == Tag::OctetString
+}
+
+// Returns whether values are ECParameters: version, field, coefficients, base point, order, and
+// optionally a cofactor and a hash (RFC 3279 2.3.5, X9.62 6.4).
+fn is_equation(lines: &mut Lines, parameters: &[Any]) -> bool {
+    let [version, field, curve, base, order, rest @ ..] = parameters else {
+        return false;
+    };
+    if rest.len() > 2 || !is_string(base) {
+        return false;
+    }
+    let field = inside(lines, field);
+    let curve = inside(lines, curve);
+    is_natural(lines, version)
+        && is_natural(lines, order)
+        && is_field(lines, field.as_slice())
+        && are_coefficients(curve.as_slice())
+}
+
+// Adds a line with the field of a curve: its prime, or its type and parameters.
 fn add_field(lines: &mut Lines, field: &[Any]) {
     match field {
         [_, prime] if prime.tag() == Tag::Integer => {
@@ -86,95 +129,105 @@ fn add_field(lines: &mut Lines, field: &[Any]) {
             add_value(lines, other);
             lines.close();
         }
-        _ => lines.malformed("malformedField", ErrorKind::Failed),
+        _ => {}
     }
 }
 
 // Adds the lines of the two coefficients of an equation.
 fn add_coefficients(lines: &mut Lines, curve: &[Any]) {
-    match curve {
-        [a, b, ..] => {
-            add_octets(lines, "a", a.value());
-            add_octets(lines, "b", b.value());
-        }
-        _ => lines.malformed("malformedCoefficients", ErrorKind::Failed),
+    if let [a, b, ..] = curve {
+        add_octets(lines, "a", a.value());
+        add_octets(lines, "b", b.value());
     }
 }
 
-// Adds the lines of the values in a field, or of those in coefficients.
-fn add_inner(lines: &mut Lines, value: &Any, is_field: bool) {
-    match values_in(lines.alloc, value) {
-        Ok(values) => {
-            if is_field {
-                add_field(lines, values.as_slice());
-            } else {
-                add_coefficients(lines, values.as_slice());
-            }
-        }
-        Err(error) => lines.malformed("malformedValue", error.kind),
-    }
-}
-
-// Adds the lines of a curve that is laid down by its equation (RFC 3279 2.3.5).
+// Adds the lines of a curve that is specified by its equation (RFC 3279 2.3.5).
 fn add_equation(lines: &mut Lines, parameters: &[Any]) {
     lines.word("laid down by its parameters");
-    match parameters {
-        [_, field, curve, generator, order, ..] => {
-            add_inner(lines, field, true);
-            add_inner(lines, curve, false);
-            add_octets(lines, "generator", generator.value());
-            lines.number_row("order", "order", order.value());
-        }
-        _ => lines.malformed("malformed", ErrorKind::Failed),
+    if let [_, field, curve, generator, order, ..] = parameters {
+        let field = inside(lines, field);
+        add_field(lines, field.as_slice());
+        let curve = inside(lines, curve);
+        add_coefficients(lines, curve.as_slice());
+        add_octets(lines, "generator", generator.value());
+        lines.number_row("order", "order", order.value());
     }
 }
 
-// Adds the name of a curve, or the type and the bytes of what is none.
+// Adds the name of a curve, or the type and the bytes of parameters that aren't a name.
 fn add_curve_name(lines: &mut Lines, parameters: &Any) {
-    match parameters.decode_as::<ObjectIdentifier<39>>(lines.alloc) {
-        Ok(curve) => lines.members_of(&curve),
-        Err(error) => {
-            lines.note(error.kind);
-            add_value(lines, parameters);
-        }
+    let curve = parameters.decode_as::<ObjectIdentifier<39>>(lines.alloc);
+    match noted(lines, curve) {
+        Some(curve) => lines.members_of(&curve),
+        None => add_value(lines, parameters),
     }
 }
 
 // Adds the lines of a curve.
-fn add_curve(lines: &mut Lines, parameters: &Any) {
+fn add_curve(lines: &mut Lines, parameters: &Any, values: &[Any]) {
     lines.node("curve", "curve");
-    match values_in(lines.alloc, parameters) {
-        Ok(values) => add_equation(lines, values.as_slice()),
-        Err(error) => {
-            lines.note(error.kind);
-            add_curve_name(lines, parameters);
+    if is_equation(lines, values) {
+        add_equation(lines, values);
+    } else {
+        add_curve_name(lines, parameters);
+        if parameters.tag() == Tag::Sequence {
+            lines.malformed("malformed", ErrorKind::Failed);
         }
     }
     lines.close();
 }
 
-// Adds the lines of a key on a curve.
-fn add_point(lines: &mut Lines, key: &SubjectPublicKeyInfo) {
-    let point = key.subject_public_key.raw_bytes();
-    add_bits(lines, coordinate_bits(point));
-    if let Some(parameters) = &key.algorithm.parameters {
-        add_curve(lines, parameters);
+// Returns the size of the curve that the parameters name or specify, or 0 if it isn't known.
+fn bits_of(lines: &mut Lines, parameters: &Any, values: &[Any]) -> u64 {
+    if parameters.tag() == Tag::ObjectIdentifier {
+        return curve_bits(parameters.value());
     }
-    add_octets(lines, "point", point);
+    match values {
+        [_, _, _, _, order, ..] if is_equation(lines, values) => {
+            match order.decode_as::<Uint>(lines.alloc) {
+                Ok(order) => bit_len(order.as_bytes()) as u64,
+                Err(_) => 0,
+            }
+        }
+        _ => 0,
+    }
+}
+
+// Adds the lines of the size of a curve, if it is known, and of the curve.
+fn add_curve_of(lines: &mut Lines, parameters: &Any) {
+    let values = if parameters.tag() == Tag::Sequence {
+        inside(lines, parameters)
+    } else {
+        Vec::new(lines.alloc)
+    };
+    let bits = bits_of(lines, parameters, values.as_slice());
+    if bits > 0 {
+        add_bits(lines, bits);
+    }
+    add_curve(lines, parameters, values.as_slice());
+}
+
+// Adds the lines of an elliptic curve key.
+fn add_point(lines: &mut Lines, key: &SubjectPublicKeyInfo) {
+    if let Some(parameters) = &key.algorithm.parameters {
+        add_curve_of(lines, parameters);
+    }
+    add_bit_row(lines, "point", "point", &key.subject_public_key);
 }
 
 // Adds the lines of the parameters of a DSA key: p, q and g (RFC 3279 2.3.2).
 fn add_group(lines: &mut Lines, parameters: &Any) {
     match list_in::<Uint>(lines.alloc, parameters) {
-        Ok(numbers) => {
-            if let [p, q, g] = numbers.as_slice() {
-                add_bits(lines, bit_len(p.as_bytes()));
+        Ok(numbers) => match numbers.as_slice() {
+            [p, q, g] => {
+                add_bits(lines, bit_len(p.as_bytes()) as u64);
                 add_natural(lines, "p", p.as_bytes());
                 add_natural(lines, "q", q.as_bytes());
                 add_natural(lines, "g", g.as_bytes());
             }
-        }
-        Err(error) => lines.malformed("malformedParameters", error.kind),
+            _ => add_malformed_parameters(lines, parameters, ErrorKind::Failed),
+        },
+        Err(error) => add_malformed_parameters(lines, parameters, error.kind),
     }
 }
 
@@ -189,14 +242,14 @@ fn add_dsa(lines: &mut Lines, key: &SubjectPublicKeyInfo) {
     }
 }
 
-// Adds the lines of an RSA key, or that bytes aren't one.
+// Adds the lines of an RSA key, or that it is malformed.
 fn add_rsa(lines: &mut Lines, octets: &[u8]) {
     if let Some(error) = add_content::<Vec<Uint>>(lines, octets) {
         add_malformed(lines, octets, error.kind);
     }
 }
 
-// Adds the lines of the bits of a key, by the name of its algorithm.
+// Adds the lines of the key's bits, by the name of its algorithm.
 fn add_key_bits(lines: &mut Lines, key: &SubjectPublicKeyInfo) {
     match known_name(key.algorithm.oid.as_bytes()).unwrap_or("") {
         "rsaEncryption" | "id-RSASSA-PSS" => {
@@ -205,10 +258,10 @@ fn add_key_bits(lines: &mut Lines, key: &SubjectPublicKeyInfo) {
         "id-dsa" => add_dsa(lines, key),
         "id-ecPublicKey" => add_point(lines, key),
         "id-X25519" | "id-X448" | "id-Ed25519" | "id-Ed448" => {
-            add_bits(lines, key.subject_public_key.bit_len());
-            add_octets(lines, "octets", key.subject_public_key.raw_bytes());
+            add_bits(lines, key.subject_public_key.bit_len() as u64);
+            add_bit_row(lines, "octets", "octets", &key.subject_public_key);
         }
-        _ => add_octets(lines, "octets", key.subject_public_key.raw_bytes()),
+        _ => add_bit_row(lines, "octets", "octets", &key.subject_public_key),
     }
 }
 
@@ -220,7 +273,7 @@ pub fn add_key(lines: &mut Lines, key: &SubjectPublicKeyInfo) {
     lines.close();
 }
 
-// Adds the lines of the digests of bytes, if they are asked for.
+// Adds the lines of the digests of bytes, if digests are printed.
 pub fn add_digests(lines: &mut Lines, names: [&str; 2], octets: &[u8]) {
     if !lines.has_digests {
         return;
@@ -230,14 +283,26 @@ pub fn add_digests(lines: &mut Lines, names: [&str; 2], octets: &[u8]) {
     add_octets(lines, second, Sha256::digest(octets).as_slice());
 }
 
-// Adds the lines of the digests of a key, if they are asked for: of its encoding, and of its bits,
-// as most identifiers of keys are made (RFC 5280 4.2.1.2).
+// Adds a line with the pin of a key: the base64 of the SHA-256 digest of its encoding (RFC 7469
+// 2.4).
+fn add_pin(lines: &mut Lines, octets: &[u8]) {
+    match STANDARD.encode(lines.alloc, Sha256::digest(octets).as_slice()) {
+        Ok(pin) => lines.text_row("key-pin-sha256", "key-pin-sha256", pin.as_str()),
+        Err(_) => lines.fail(),
+    }
+}
+
+// Adds the lines of the digests of a key, if digests are printed: of its encoding, and of its bits,
+// from which most key identifiers are made (RFC 5280 4.2.1.2).
 pub fn add_key_digests(lines: &mut Lines, key: &SubjectPublicKeyInfo) {
     if !lines.has_digests {
         return;
     }
     match key.to_der(lines.alloc) {
-        Ok(octets) => add_digests(lines, ["key-sha1", "key-sha256"], octets.as_slice()),
+        Ok(octets) => {
+            add_digests(lines, ["key-sha1", "key-sha256"], octets.as_slice());
+            add_pin(lines, octets.as_slice());
+        }
         Err(_) => lines.fail(),
     }
     let bits = Sha1::digest(key.subject_public_key.raw_bytes());

@@ -1,38 +1,56 @@
-//! Certificates, CRLs and CSRs, described for readers and for programs.
+//! Describes certificates, CRLs and CSRs, as lines for readers or as JSON for programs.
 #![tactic(auto)]
 
 mod algorithms;
+mod content_parts;
 mod contents;
+mod curves;
+mod dates;
 mod described;
 mod description;
+mod error_path;
+mod expected_fields;
 mod general_names;
 mod keys;
 mod lists;
+mod other_contents;
+mod parts;
 mod points;
 mod policies;
 mod requests;
+mod resources;
 mod timestamps;
+mod unsupported;
 mod uses;
 mod values;
 
+pub use content_parts::parts_of_content;
 pub use contents::content_fault;
+pub use dates::{encodes, two};
 pub use described::{Describe, DescribeFile};
 pub use description::add_certificate;
-pub use general_names::add_general_name;
+pub use error_path::{
+    ErrorPath, Inside, Step, content_at, content_place, is_followed, path_to, place_of,
+};
+pub use general_names::{add_general_name, kind_of};
 pub use lists::add_list;
+pub use parts::{Node, Part, parts_of};
 pub use requests::add_request;
+pub use unsupported::{
+    after_tag, has_shortest_length, is_any, is_number, is_set_of_bits, unsupported_type,
+};
 
-/// The names of `x509_cert_certificates` that the crates above use.
+/// The items of `x509_cert_certificates` that the crates above use.
 pub mod cert_certificates {
     pub use x509_cert_certificates::{CertificateInner, TbsCertificateInner};
 }
 
-/// The names of `x509_cert_extensions` that the crates above use.
+/// The items of `x509_cert_extensions` that the crates above use.
 pub mod cert_extensions {
     pub use x509_cert_extensions::{CrlDistributionPoints, KeyUsages};
 }
 
-/// The names of `x509_cert_general_names` that the crates above use.
+/// The items of `x509_cert_general_names` that the crates above use.
 pub mod cert_general_names {
     pub use x509_cert_extensions::cert_general_names::{
         AuthorityKeyIdentifier, GeneralName, GeneralSubtree, IssuingDistributionPoint,
@@ -40,51 +58,51 @@ pub mod cert_general_names {
     };
 }
 
-/// The names of `x509_cert_kinds` that the crates above use.
+/// The items of `x509_cert_kinds` that the crates above use.
 pub mod cert_kinds {
     pub use x509_cert_kinds::ExtensionKind;
 }
 
-/// The names of `x509_cert_lists` that the crates above use.
+/// The items of `x509_cert_lists` that the crates above use.
 pub mod cert_lists {
     pub use x509_cert_lists::{CertReq, CertificateList, RevokedCert, TbsCertList};
 }
 
-/// The names of `x509_cert_names` that the crates above use.
+/// The items of `x509_cert_names` that the crates above use.
 pub mod cert_names {
     pub use x509_cert_lists::cert_names::{AttributeTypeAndValue, Name, RdnSequence};
 }
 
-/// The names of `x509_cert_parts` that the crates above use.
+/// The items of `x509_cert_parts` that the crates above use.
 pub mod cert_parts {
     pub use cert_tool_lines::cert_parts::{Extension, Extensions, Raw, Time, Validity, Version};
 }
 
-/// The names of `der_core` that the crates above use.
+/// The items of `der_core` that the crates above use.
 pub mod der {
     pub use x509_cert_lists::der::{
-        Decode, Error, ErrorKind, FromDer, MAX_LEVELS, SliceReader, Tag, ToDer, header_of, making,
+        Decode, Error, ErrorKind, FromDer, SliceReader, Tag, ToDer, header_of, making,
     };
 }
 
-/// The names of `const_oid` that the crates above use.
+/// The items of `const_oid` that the crates above use.
 pub mod oid {
     pub use x509_cert_lists::oid::{Error, ObjectIdentifier};
 }
 
-/// The names of `x509_cert_policies` that the crates above use.
+/// The items of `x509_cert_policies` that the crates above use.
 pub mod policy_types {
     pub use x509_cert_extensions::policy_types::{
         BasicConstraints, CertificatePolicies, PolicyConstraints, PolicyMappings,
     };
 }
 
-/// The names of `cert_tool_lines` that the crates above use.
+/// The items of `cert_tool_lines` that the crates above use.
 pub mod tool_lines {
     pub use cert_tool_lines::{Lines, known_name};
 }
 
-/// The names of `der_types` that the crates above use.
+/// The items of `der_types` that the crates above use.
 pub mod types {
     pub use cert_tool_lines::types::{DateTime, FlagSet, Uint};
 }

@@ -1,4 +1,4 @@
-//! CRLs (RFC 5280 5): their descriptions.
+//! Descriptions of CRLs (RFC 5280 5).
 ghost use Rattle.std.specs.Prelude.{◌≢◌, IfNone, IfSome};
 ghost use Rattle.x509_cert_lists.specs.Der.ErrorTypes.ErrorKind.TheVariants.{OutOfMemory};
 ghost use Rattle.cert_tool_describe.specs.Files.{IsList};
@@ -67,7 +67,7 @@ fn add_entry(lines: &mut Lines, entry: &RevokedCert<Raw>) {
     lines.close();
 }
 
-// Adds the lines of entries, in their order.
+// Adds the lines of entries, in order.
 fn add_entries(lines: &mut Lines, entries: &[RevokedCert<Raw>]) {
     lines.list("revokedCertificates");
     for entry in entries {
@@ -76,7 +76,7 @@ fn add_entries(lines: &mut Lines, entries: &[RevokedCert<Raw>]) {
     lines.end_list();
 }
 
-// Adds the lines of the signed part.
+// Adds the lines of the TBSCertList.
 fn add_signed(lines: &mut Lines, signed: &TbsCertList<Raw>) {
     add_kind(lines, "list", signed.version);
     add_algorithm(lines, "algorithm", "signature", &signed.signature);
@@ -107,7 +107,8 @@ impl DescribeFile for CertificateList<Raw> {
     }
 }
 
-/// Adds what a list says, and digests of its bytes; answers why the bytes are none, if they aren't.
+/// Adds the description of a CRL, with digests of its encoding, or returns the error if it can't be
+/// decoded.
 pub fn add_list(lines: &mut Lines, octets: &[u8]) -> Option<ErrorKind>
     ensures spelled { IfNone result (IsList octets.now) }
     ensures refused { IfSome result (λ kind. kind ≢ OutOfMemory → IsList octets.now → ⊥) }

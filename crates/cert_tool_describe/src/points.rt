@@ -1,4 +1,4 @@
-//! Where more stands: distribution points, access, key identifiers, constraints on names (RFC 5280
+//! Prints distribution points, access descriptions, key identifiers and name constraints (RFC 5280
 //! 4.2.1.1, 4.2.1.10, 4.2.1.13, 4.2.2).
 
 use crate::described::Describe;
@@ -14,7 +14,7 @@ use x509_cert_extensions::cert_general_names::{
 use x509_cert_extensions::{AuthorityInfoAccessSyntax, CrlDistributionPoints};
 use x509_cert_lists::der::Error;
 
-// Adds the lines of a point's name.
+// Adds the lines of the name of a distribution point.
 fn add_point_name(lines: &mut Lines, name: &DistributionPointName) {
     match name {
         DistributionPointName::FullName(listed) => {
@@ -27,7 +27,7 @@ fn add_point_name(lines: &mut Lines, name: &DistributionPointName) {
     }
 }
 
-// Why certificates are revoked (RFC 5280 4.2.1.13).
+// The reasons for a revocation (RFC 5280 4.2.1.13).
 const REASONS: [(Reasons, &str); 9] = [
     (Reasons::Unused, "unused"),
     (Reasons::KeyCompromise, "keyCompromise"),
@@ -45,7 +45,7 @@ fn add_reasons(lines: &mut Lines, key: &str, reasons: &ReasonFlags) {
     add_flags(lines, "for", key, reasons, &REASONS);
 }
 
-// Adds the lines of a point.
+// Adds the lines of a distribution point.
 fn add_point(lines: &mut Lines, point: &DistributionPoint) {
     lines.entry("point");
     if let Some(name) = &point.distribution_point {
@@ -74,7 +74,7 @@ impl Describe for CrlDistributionPoints {
     }
 }
 
-// Adds a line that says which certificates are in a list, if it holds.
+// Adds a line for a boolean of issuingDistributionPoint, if it is true.
 fn add_scope(lines: &mut Lines, words: &str, key: &str, holds: bool) {
     if holds {
         lines.line();
@@ -160,7 +160,7 @@ impl Describe for AuthorityKeyIdentifier {
     }
 }
 
-// Adds the lines of a subtree, which a word begins.
+// Adds the lines of a subtree, which begin with this word.
 fn add_subtree(lines: &mut Lines, word: &str, tree: &GeneralSubtree) {
     lines.item(word);
     lines.brace();

@@ -1,4 +1,4 @@
-//! Policies (RFC 5280 4.2.1.4, 4.2.1.5, 4.2.1.11, 4.2.1.14).
+//! Prints policies (RFC 5280 4.2.1.4, 4.2.1.5, 4.2.1.11, 4.2.1.14).
 
 use crate::described::Describe;
 use crate::values::{add_value, list_in, read, read_members, values_in};
@@ -13,7 +13,7 @@ use x509_cert_lists::der::making::leaf_from_der;
 use x509_cert_lists::der::{Error, ErrorKind, Tag};
 use x509_cert_lists::oid::ObjectIdentifier;
 
-// Adds the lines of the numbers of notices.
+// Adds the lines of the noticeNumbers.
 fn add_numbers(lines: &mut Lines, numbers: &Any) {
     match list_in::<Uint>(lines.alloc, numbers) {
         Ok(numbers) => {
@@ -28,7 +28,7 @@ fn add_numbers(lines: &mut Lines, numbers: &Any) {
     }
 }
 
-// Adds a line for a text of a notice.
+// Adds a line with a text of a UserNotice.
 fn add_notice_text(lines: &mut Lines, word: &str, key: &str, text: &Any) {
     lines.row(word, key);
     lines.brace();
@@ -36,7 +36,7 @@ fn add_notice_text(lines: &mut Lines, word: &str, key: &str, text: &Any) {
     lines.end_brace();
 }
 
-// Adds the lines of a part of a reference to notices: whose they are, or their numbers.
+// Adds the lines of a field of a NoticeReference: its organization or its noticeNumbers.
 fn add_reference_part(lines: &mut Lines, part: &Any) {
     if part.tag() == Tag::Sequence {
         add_numbers(lines, part);
@@ -45,7 +45,7 @@ fn add_reference_part(lines: &mut Lines, part: &Any) {
     }
 }
 
-// Adds that the parts of a notice, or of a reference to some, can't be read.
+// Adds that a UserNotice or a NoticeReference is malformed.
 fn add_no_parts(lines: &mut Lines, kind: ErrorKind) {
     lines.comma();
     lines.brace();
@@ -53,7 +53,7 @@ fn add_no_parts(lines: &mut Lines, kind: ErrorKind) {
     lines.end_brace();
 }
 
-// Adds the lines of the parts of a reference to notices.
+// Adds the lines of a NoticeReference.
 fn add_reference(lines: &mut Lines, whole: &Any) {
     match values_in(lines.alloc, whole) {
         Ok(parts) => {
@@ -68,7 +68,7 @@ fn add_reference(lines: &mut Lines, whole: &Any) {
     }
 }
 
-// Adds the lines of a part of a notice: where its text is found, or that text.
+// Adds the lines of a field of a UserNotice: its noticeRef or its explicitText.
 fn add_notice_part(lines: &mut Lines, part: &Any) {
     if part.tag() == Tag::Sequence {
         lines.list("noticeRef");
@@ -79,7 +79,7 @@ fn add_notice_part(lines: &mut Lines, part: &Any) {
     }
 }
 
-// Adds the lines of the parts of a notice.
+// Adds the lines of a UserNotice.
 fn add_notice(lines: &mut Lines, whole: &Any) {
     match values_in(lines.alloc, whole) {
         Ok(parts) => {
@@ -94,7 +94,8 @@ fn add_notice(lines: &mut Lines, whole: &Any) {
     }
 }
 
-// Adds the lines of a qualifier: a notice, or where the statement of practices stands.
+// Adds the lines of a policy qualifier: a UserNotice, or the URI of the certification practice
+// statement.
 fn add_qualifier(lines: &mut Lines, qualifier: &PolicyQualifierInfo) {
     lines.entry("");
     lines.members_of(&qualifier.policy_qualifier_id);
@@ -138,7 +139,7 @@ impl Describe for CertificatePolicies {
     }
 }
 
-// Adds a policy of a mapping.
+// Adds a policy of a policy mapping.
 fn add_mapped(lines: &mut Lines, key: &str, policy: &ObjectIdentifier<39>) {
     lines.key(key);
     lines.brace();

@@ -8,7 +8,7 @@ use crate::contents::add_extensions;
 use crate::described::{DescribeFile, add_file};
 use crate::description::add_kind;
 use crate::keys::{add_digests, add_key, add_key_digests};
-use crate::values::{add_name, add_value, list_in};
+use crate::values::{add_name, add_value, list_in, noted};
 use cert_tool_lines::Lines;
 use cert_tool_lines::cert_parts::{Extension, Extensions, Version};
 use cert_tool_lines::types::Any;
@@ -18,18 +18,13 @@ use x509_cert_lists::der::{Error, ErrorKind};
 use x509_cert_lists::oid::AssociatedOid;
 use x509_cert_lists::{CertReq, CertReqInfo, ExtensionReq};
 
-// Returns the extensions that a value asks for, if it is the one that asks.
+// Returns the extensions of an extensionRequest, if `is_wanted` and the value is one.
 fn wanted_in(lines: &mut Lines, is_wanted: bool, value: &Any) -> Option<Extensions> {
     if !is_wanted {
         return None;
     }
-    match list_in::<Extension>(lines.alloc, value) {
-        Ok(wanted) => Some(wanted),
-        Err(error) => {
-            lines.note(error.kind);
-            None
-        }
-    }
+    let wanted = list_in::<Extension>(lines.alloc, value);
+    noted(lines, wanted)
 }
 
 // Adds the lines of a value of an attribute.
@@ -62,7 +57,7 @@ fn add_attribute(lines: &mut Lines, attribute: &Attribute) {
     lines.close();
 }
 
-// Adds the lines of what is asked for.
+// Adds the lines of the CertificationRequestInfo.
 fn add_info(lines: &mut Lines, info: &CertReqInfo) {
     add_kind(lines, "request", Version::V1);
     add_name(lines, "subject", "subject", &info.subject);
@@ -89,8 +84,8 @@ impl DescribeFile for CertReq {
     }
 }
 
-/// Adds what a request says, and digests of its bytes and of its key; answers why the bytes are
-/// none, if they aren't.
+/// Adds the description of a CSR, with digests of its encoding and of its key, or returns the error
+/// if it can't be decoded.
 pub fn add_request(lines: &mut Lines, octets: &[u8]) -> Option<ErrorKind>
     ensures spelled { IfNone result (IsRequest octets.now) }
     ensures refused { IfSome result (λ kind. kind ≢ OutOfMemory → IsRequest octets.now → ⊥) }

@@ -1,4 +1,4 @@
-//! Timestamps of logs (RFC 6962 3.3).
+//! Prints signed certificate timestamps (RFC 6962 3.3).
 
 use crate::described::Describe;
 use cert_tool_lines::Lines;
@@ -11,7 +11,7 @@ use x509_cert_extensions::policy_types::timestamps::{
 use x509_cert_lists::der::making::leaf_from_der;
 use x509_cert_lists::der::{Error as DerError, ErrorKind, Tag};
 
-// Returns the name of a hash (RFC 5246 7.4.1.4.1, RFC 8422 5.1.3).
+// Returns the name of a hash algorithm (RFC 5246 7.4.1.4.1, RFC 8422 5.1.3).
 fn hash_name(hash: &HashAlgorithm) -> &'static str {
     match hash {
         HashAlgorithm::None => "none",
@@ -25,7 +25,7 @@ fn hash_name(hash: &HashAlgorithm) -> &'static str {
     }
 }
 
-// Returns the name of what signs (RFC 5246 7.4.1.4.1, RFC 8422 5.1.3).
+// Returns the name of a signature algorithm (RFC 5246 7.4.1.4.1, RFC 8422 5.1.3).
 fn signature_name(signature: &SignatureAlgorithm) -> &'static str {
     match signature {
         SignatureAlgorithm::Anonymous => "anonymous",
@@ -37,7 +37,7 @@ fn signature_name(signature: &SignatureAlgorithm) -> &'static str {
     }
 }
 
-// Adds the line of a signature.
+// Adds a line with a signature.
 fn add_signature(lines: &mut Lines, signed: &DigitallySigned) {
     lines.text_row(
         "signature",
@@ -52,7 +52,8 @@ fn add_signature(lines: &mut Lines, signed: &DigitallySigned) {
     lines.octets(signed.signature.as_slice());
 }
 
-// Adds the line of a date, in milliseconds, if it is one, or of the milliseconds alone.
+// Adds a line with the date of a timestamp. If the milliseconds aren't a supported date, they are
+// printed as a number.
 fn add_date(lines: &mut Lines, timestamp: &SignedCertificateTimestamp) {
     lines.line();
     let mut left = timestamp.timestamp;
@@ -79,7 +80,7 @@ fn add_timestamp(lines: &mut Lines, timestamp: &SignedCertificateTimestamp) {
     lines.close();
 }
 
-// Adds that timestamps aren't what they should be.
+// Adds that timestamps are malformed.
 fn add_fault(lines: &mut Lines, error: Error) {
     if let Error::Tls(TlsError::OutOfMemory) = error {
         lines.fail();
@@ -87,7 +88,7 @@ fn add_fault(lines: &mut Lines, error: Error) {
     lines.malformed("malformed", ErrorKind::Failed);
 }
 
-// Adds the lines of a timestamp as it is written.
+// Adds the lines of an encoded timestamp.
 fn add_written(lines: &mut Lines, written: &SerializedSct) {
     match written.parse_timestamp(lines.alloc) {
         Ok(timestamp) => add_timestamp(lines, &timestamp),
@@ -122,7 +123,7 @@ impl Describe for SignedCertificateTimestampList {
     }
 }
 
-// Returns why bytes in an OCTET STRING aren't timestamps.
+// Returns the DER error for malformed timestamps in an OCTET STRING.
 fn timestamps_error(error: Error) -> DerError {
     match error {
         Error::Der(error) => error,
@@ -133,7 +134,7 @@ fn timestamps_error(error: Error) -> DerError {
     }
 }
 
-// Returns why one of these isn't a timestamp, if one isn't.
+// Returns the error of the first malformed timestamp, if there is one.
 fn timestamp_fault(alloc: Global, listed: &[SerializedSct]) -> Option<DerError> {
     for written in listed {
         if let Err(error) = written.parse_timestamp(alloc) {
@@ -143,7 +144,7 @@ fn timestamp_fault(alloc: Global, listed: &[SerializedSct]) -> Option<DerError> 
     None
 }
 
-// Returns why bytes aren't a list of timestamps, if they aren't.
+// Returns the error if the bytes aren't a list of timestamps.
 pub fn timestamps_fault(alloc: Global, octets: &[u8]) -> Option<DerError> {
     let list = match SignedCertificateTimestampList::read_content(alloc, octets) {
         Ok(list) => list,

@@ -1,5 +1,5 @@
-//! What a key may be used for and when, and which key it is (RFC 5280 4.2.1.2, 4.2.1.3, 4.2.1.9,
-//! 4.2.1.12, 5.3.2, RFC 3280 4.2.1.4, RFC 7633).
+//! Prints key usage, key identifiers, CA flags and dates of keys (RFC 5280 4.2.1.2, 4.2.1.3,
+//! 4.2.1.9, 4.2.1.12, 5.3.2, RFC 3280 4.2.1.4, RFC 7633).
 
 use crate::described::Describe;
 use crate::values::{read, read_members};
@@ -21,8 +21,7 @@ impl Describe for SubjectKeyIdentifier {
     }
 }
 
-// Adds an array of the names of those of these flags that are in a set, a line each, which a word
-// begins.
+// Adds an array with the names of the flags that are set. Each line begins with this word.
 pub fn add_flags<F: NamedBits>(
     lines: &mut Lines,
     word: &str,
@@ -40,7 +39,7 @@ pub fn add_flags<F: NamedBits>(
     lines.end_list();
 }
 
-// What a key may be used for (RFC 5280 4.2.1.3).
+// The bits of keyUsage (RFC 5280 4.2.1.3).
 const USES: [(KeyUsages, &str); 9] = [
     (KeyUsages::DigitalSignature, "digitalSignature"),
     (KeyUsages::NonRepudiation, "contentCommitment"),
@@ -93,13 +92,13 @@ impl Describe for BasicConstraints {
     }
 }
 
-// Adds a line for a date.
+// Adds a line with a date.
 fn add_date(lines: &mut Lines, word: &str, key: &str, date: &GeneralizedTime) {
     lines.row(word, key);
     lines.value(date.to_date_time());
 }
 
-// Since when a key may have been in other hands.
+// The content of invalidityDate.
 impl Describe for GeneralizedTime {
     fn read_content(alloc: Global, octets: &[u8]) -> Result<GeneralizedTime, Error> {
         leaf_from_der(alloc, octets)
@@ -125,7 +124,7 @@ impl Describe for PrivateKeyUsagePeriod {
     }
 }
 
-// Returns the name of an extension of TLS that a server must answer (RFC 6066 1.1, RFC 6961 2.2).
+// Returns the name of a TLS extension that a server must answer (RFC 6066 1.1, RFC 6961 2.2).
 fn feature_name(feature: u16) -> &'static str {
     match feature {
         5 => "status_request (5)",
@@ -134,7 +133,7 @@ fn feature_name(feature: u16) -> &'static str {
     }
 }
 
-// The numbers of such extensions.
+// The content of tlsFeature: numbers of TLS extensions.
 impl Describe for Vec<u16> {
     fn read_content(alloc: Global, octets: &[u8]) -> Result<Vec<u16>, Error> {
         read_members(alloc, octets)

@@ -1,4 +1,4 @@
-//! Values of any type: their texts, or their bytes.
+//! Prints values of any type: their texts, or their bytes.
 
 use cert_tool_lines::Lines;
 use cert_tool_lines::types::Any;
@@ -10,7 +10,7 @@ use x509_cert_lists::der::making::read_whole;
 use x509_cert_lists::der::{Error, FixedTag, SliceReader, Tag};
 use x509_cert_lists::oid::ObjectIdentifier;
 
-// Returns the character of two bytes, if they are one (X.690 8.23.8).
+// Returns the character that two bytes encode, if they encode one (X.690 8.23.8).
 fn wide_letter(high: u8, low: u8) -> Option<char> {
     char::from_u32(u32::from(high) * 256 + u32::from(low))
 }
@@ -25,8 +25,8 @@ fn is_wide(octets: &[u8]) -> bool {
     octets.len() % 2 == 0
 }
 
-// Adds the text of a BMPString, of which two bytes are a character. Those that aren't stand after
-// `\u`, and so does a byte that is left.
+// Adds the text of a BMPString, in which two bytes encode a character. Bytes that don't encode one
+// are printed after `\u`.
 fn add_wide(lines: &mut Lines, octets: &[u8]) {
     for place in 0..octets.len() / 2 {
         let (high, low) = (octets[2 * place], octets[2 * place + 1]);
@@ -40,15 +40,37 @@ fn add_wide(lines: &mut Lines, octets: &[u8]) {
     }
 }
 
-// Adds the text that bytes encode in UTF-8, or each of them after a backslash.
-fn add_narrow(lines: &mut Lines, octets: &[u8]) {
-    match str::from_utf8(octets) {
-        Ok(text) => lines.plain(text),
-        Err(_) => lines.pairs("\\", octets, Some(b'\\')),
+// Adds the text of a TeletexString. Most programs write Latin-1, in which each byte is a character.
+fn add_latin(lines: &mut Lines, octets: &[u8]) {
+    for octet in octets {
+        lines.letter(char::from(*octet));
     }
 }
 
-// Returns whether values of a type are texts.
+// Adds the text that bytes encode in ASCII. Other bytes are printed after a backslash.
+fn add_ascii(lines: &mut Lines, octets: &[u8]) {
+    for octet in octets {
+        if octet.is_ascii() {
+            lines.letter(char::from(*octet));
+        } else {
+            lines.pairs("\\", &[*octet], None);
+        }
+    }
+}
+
+// Adds the text of a string of this type. Bytes that the type doesn't allow are printed after a
+// backslash.
+fn add_narrow(lines: &mut Lines, tag: Tag, octets: &[u8]) {
+    match (tag, str::from_utf8(octets)) {
+        (Tag::Utf8String, Ok(text)) => lines.plain(text),
+        (Tag::Utf8String, Err(_)) => lines.pairs("\\", octets, Some(b'\\')),
+        (Tag::TeletexString, _) => add_latin(lines, octets),
+        (_, Ok(text)) if text.is_ascii() => lines.plain(text),
+        _ => add_ascii(lines, octets),
+    }
+}
+
+// Returns whether a type is a string type.
 fn is_string(tag: Tag) -> bool {
     matches!(
         tag,
@@ -63,11 +85,14 @@ fn is_string(tag: Tag) -> bool {
     )
 }
 
-// Returns whether a text can be told as what it is: its bytes encode characters.
+// Returns whether a value can be printed as text: its bytes encode characters.
 fn is_spelled(value: &Any) -> bool {
-    match value.tag() {
-        Tag::BmpString => is_wide(value.value()),
-        _ => str::from_utf8(value.value()).is_ok(),
+    match (value.tag(), str::from_utf8(value.value())) {
+        (Tag::BmpString, _) => is_wide(value.value()),
+        (Tag::TeletexString, _) => true,
+        (Tag::Utf8String, text) => text.is_ok(),
+        (_, Ok(text)) => text.is_ascii(),
+        (_, Err(_)) => false,
     }
 }
 
@@ -81,7 +106,7 @@ pub fn add_value(lines: &mut Lines, value: &Any) {
         lines.begin();
         match value.tag() {
             Tag::BmpString => add_wide(lines, value.value()),
-            _ => add_narrow(lines, value.value()),
+            tag => add_narrow(lines, tag, value.value()),
         }
         lines.end();
     } else {
@@ -92,7 +117,7 @@ pub fn add_value(lines: &mut Lines, value: &Any) {
     }
 }
 
-// Adds the line of a value, if it is a text or an identifier.
+// Adds a line with a value, if it is a text or an object identifier.
 fn add_plain_value(lines: &mut Lines, value: &Any) {
     if is_string(value.tag()) && is_spelled(value) {
         lines.row("", "value");
@@ -100,28 +125,26 @@ fn add_plain_value(lines: &mut Lines, value: &Any) {
         add_value(lines, value);
         lines.end_brace();
     } else if value.tag() == Tag::ObjectIdentifier {
-        match value.decode_as::<ObjectIdentifier<39>>(lines.alloc) {
-            Ok(identifier) => {
-                lines.row("", "value");
-                lines.brace();
-                lines.members_of(&identifier);
-                lines.end_brace();
-            }
-            Err(error) => lines.note(error.kind),
+        let identifier = value.decode_as::<ObjectIdentifier<39>>(lines.alloc);
+        if let Some(identifier) = noted(lines, identifier) {
+            lines.row("", "value");
+            lines.brace();
+            lines.members_of(&identifier);
+            lines.end_brace();
         }
     }
 }
 
-// Adds the line of the text or the identifier that bytes encode, if they spell one alone.
+// Adds a line with the text or the object identifier that the bytes encode, if they encode one.
 pub fn add_value_of(lines: &mut Lines, octets: &[u8]) {
-    match read_whole::<Any>(lines.alloc, octets) {
-        Ok(value) => add_plain_value(lines, &value),
-        Err(error) => lines.note(error.kind),
+    let value = read_whole::<Any>(lines.alloc, octets);
+    if let Some(value) = noted(lines, value) {
+        add_plain_value(lines, &value);
     }
 }
 
-// Returns the value that bytes encode, of a type that names its way. What the way gives is checked
-// here, and not where the type is named.
+// Decodes a value of a type that implements `Described`. The function is generic so that the
+// decoder is checked here, and not in each caller.
 pub fn read<'a, T: Described + FixedTag + Drop>(alloc: Global, octets: &'a [u8]) -> Result<T, Error>
 where
     T::By: DecodeWay<'a, SliceReader<'a>, T>,
@@ -129,7 +152,7 @@ where
     read_whole(alloc, octets)
 }
 
-// Returns the values of a type that names its way, which bytes list.
+// Decodes a list of values of a type that implements `Described`.
 pub fn read_members<'a, T: Described + FixedTag + Drop>(
     alloc: Global,
     octets: &'a [u8],
@@ -140,12 +163,58 @@ where
     read_whole(alloc, octets)
 }
 
-// Returns the values that are in a SEQUENCE.
+// Returns the values inside a SEQUENCE.
 pub fn values_in(alloc: Global, value: &Any) -> Result<Vec<Any>, Error> {
     value.decode_as(alloc)
 }
 
-// Returns the values of a type that names its way, which are in a SEQUENCE.
+// Returns a value that was decoded, or `None` if it can't be. If memory has run out, `lines` fails.
+pub fn noted<T: Drop>(lines: &mut Lines, decoded: Result<T, Error>) -> Option<T> {
+    match decoded {
+        Ok(value) => Some(value),
+        Err(error) => {
+            lines.note(error.kind);
+            None
+        }
+    }
+}
+
+// Returns the values inside a SEQUENCE; `None` if the value isn't one.
+pub fn sequence_in(lines: &mut Lines, value: &Any) -> Option<Vec<Any>> {
+    let values = values_in(lines.alloc, value);
+    noted(lines, values)
+}
+
+// Returns the values inside a SEQUENCE; empty if the value isn't one.
+pub fn inside(lines: &mut Lines, value: &Any) -> Vec<Any> {
+    match sequence_in(lines, value) {
+        Some(values) => values,
+        None => Vec::new(lines.alloc),
+    }
+}
+
+// Decodes a SEQUENCE, and returns the values inside it; `None` if the bytes can't be decoded.
+pub fn any_in(lines: &mut Lines, octets: &[u8]) -> Option<Vec<Any>> {
+    let values = read_whole::<Vec<Any>>(lines.alloc, octets);
+    noted(lines, values)
+}
+
+// Returns whether values are fields with explicit tags, whose numbers ascend and are below a bound.
+pub fn are_tagged(fields: &[Any], bound: u32) -> bool {
+    let mut next = 0u32;
+    for field in fields {
+        let tag = field.tag();
+        let number = tag.number().value;
+        let is_next = next <= number && number < bound;
+        if !tag.is_context_specific() || !tag.is_constructed() || !is_next {
+            return false;
+        }
+        next = number.saturating_add(1);
+    }
+    true
+}
+
+// Decodes the values of a type that implements `Described`, which are inside a SEQUENCE.
 pub fn list_in<'a, T: Described + FixedTag + Drop>(
     alloc: Global,
     value: &'a Any,
@@ -156,13 +225,13 @@ where
     value.decode_as(alloc)
 }
 
-// Returns whether the text of an attribute has its type by arcs, and its value by bytes (RFC 4514
-// 2.4): the type has no short name there, or the value isn't a string that it spells.
+// Returns whether the text of an attribute has its type as arcs and its value in hex (RFC 4514
+// 2.4): the type has no short name, or the value isn't a string that can be printed.
 fn is_bare(text: &str) -> bool {
     matches!(text.as_bytes(), [b'0'..=b'9', ..])
 }
 
-// Returns whether the line of a name tells less than a line of this attribute.
+// Returns whether a line with this attribute says more than the line of its name.
 fn is_told(lines: &mut Lines, attribute: &AttributeTypeAndValue) -> bool {
     if lines.is_json {
         return true;
@@ -176,8 +245,8 @@ fn is_told(lines: &mut Lines, attribute: &AttributeTypeAndValue) -> bool {
     }
 }
 
-// Adds the attributes of a name; on lines those alone that the name's own line tells by arcs and
-// bytes.
+// Adds the attributes of a name. As lines, only those are added that the line of the name prints
+// with arcs and hex.
 fn add_attributes(lines: &mut Lines, name: &Name) {
     for attribute in name.iter() {
         if is_told(lines, attribute) {
@@ -189,8 +258,8 @@ fn add_attributes(lines: &mut Lines, name: &Name) {
     }
 }
 
-// Adds the members of a name: its text, and its attributes. Bytes stand after `#` in the text (RFC
-// 4514 2.4), so without one it tells them all.
+// Adds the members of a name: its text and its attributes. In the text, bytes follow `#` (RFC 4514
+// 2.4), so a text without `#` says everything.
 pub fn add_name_members(lines: &mut Lines, name: &Name) {
     let text = match name.to_string(lines.alloc) {
         Ok(text) => text,

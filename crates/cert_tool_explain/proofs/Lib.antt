@@ -1,3 +1,4 @@
+pub mod KeptChains
 pub use Rattle.cert_tool_describe.proofs.CertNames
 pub use Rattle.cert_tool_describe.proofs.Der
 pub use Rattle.cert_desk_checking.proofs.DeskBundle

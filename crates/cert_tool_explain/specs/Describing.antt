@@ -1,4 +1,4 @@
--- How bytes of a file are described, or why they aren't, and the status.
+-- The output and the exit status of `describe KIND`.
 use Rattle.std.specs.Prelude.{ℕ, ◌⊎◌, List}
 use Rattle.cert_desk_checking.specs.DeskIo.declared.exit_status.ExitStatus.{ExitStatus}
 use Rattle.cert_desk_checking.specs.DeskIo.declared.exit_status.ExitStatus.TheVariants as statuses
@@ -8,22 +8,22 @@ use Rattle.cert_tool_describe.specs.Files.{IsCertificate, IsList, IsRequest}
 use Rattle.cert_tool_explain.specs.declared.kind.Kind.{Kind}
 use Rattle.cert_tool_explain.specs.declared.kind.Kind.TheVariants as kinds
 
--- bytes that encode a value of a kind
+-- The bytes are the encoding of a value of this kind.
 abbrev pub IsOfKind : Kind → List ℕ → Type 0
 IsOfKind kinds.Certificate octets = IsCertificate octets
 IsOfKind kinds.List octets = IsList octets
 IsOfKind kinds.Request octets = IsRequest octets
 
--- Some text tells why bytes aren't of a kind. If memory runs out for it, this is reported in its
--- place.
-abbrev pub IsRefusalTold : Device → ExitStatus → Type 0
-IsRefusalTold err answer =
+-- Some text on the error output says why the bytes can't be decoded, and the status is that of
+-- malformed input. If memory runs out for the text, only that is reported.
+abbrev pub IsErrorExplained : Device → ExitStatus → Type 0
+IsErrorExplained err answer =
     ((text : List ℕ) × IsComplaint err text statuses.Faulty answer) ⊎ IsMemoryTold err answer
 
--- Of bytes that are of a kind some text goes out; of others it is reported why they aren't; or
--- memory runs out, which is reported.
+-- If the bytes are the encoding of a value of this kind, some text is written to the output; else
+-- it is reported why they aren't. Or memory runs out, which is reported.
 abbrev pub IsDescribed : Kind → List ℕ → Device → Device → ExitStatus → Type 0
 IsDescribed kind octets out err answer =
     (IsOfKind kind octets × ((text : List ℕ) × IsAnswer out err text statuses.Done answer))
-    ⊎ (Untouched out × (((IsOfKind kind octets → ⊥) × IsRefusalTold err answer)
+    ⊎ (Untouched out × (((IsOfKind kind octets → ⊥) × IsErrorExplained err answer)
     ⊎ IsMemoryTold err answer))

@@ -1,20 +1,21 @@
-//! Trust anchors: why bytes begin with none, and what anchors say that no rule looks at.
+//! Trust anchors: why they can't be decoded, and which of their fields no rule checks.
 
-use crate::{Node, add_fault};
+use crate::add_fault;
 use cert_desk_checking::cert_anchors::TrustAnchorChoice;
+use cert_tool_describe::Node;
 use cert_tool_describe::cert_certificates::TbsCertificateInner;
 use cert_tool_describe::cert_names::Name;
 use cert_tool_describe::cert_parts::{Extension, Extensions, Raw, Validity};
 use cert_tool_describe::der::{Decode, Error, FromDer, SliceReader};
 use cert_tool_describe::tool_lines::Lines;
 
-/// Begins what is said of the anchor at a byte.
+/// Begins the entry of the trust anchor at this offset.
 pub fn begin_anchor(lines: &mut Lines, offset: u64) {
     lines.entry("anchor at octet");
     lines.count_member("octet", offset);
 }
 
-// Adds which extensions these are, in one line.
+// Adds the names of these extensions, in one line.
 fn add_kinds(lines: &mut Lines, extensions: &[Extension]) {
     let mut before = "";
     lines.item("not judged:");
@@ -26,7 +27,7 @@ fn add_kinds(lines: &mut Lines, extensions: &[Extension]) {
     lines.end();
 }
 
-// Adds which dates these are, in one line.
+// Adds the validity period, in one line.
 fn add_dates(lines: &mut Lines, validity: &Validity<Raw>) {
     lines.item("not judged:");
     lines.begin();
@@ -35,7 +36,7 @@ fn add_dates(lines: &mut Lines, validity: &Validity<Raw>) {
     lines.end();
 }
 
-// Adds which extensions an anchor has, if it has some.
+// Adds the extensions of a trust anchor, if it has any.
 fn add_extensions(lines: &mut Lines, extensions: Option<&Extensions>) {
     if let Some(extensions) = extensions {
         if !extensions.is_empty() {
@@ -44,13 +45,13 @@ fn add_extensions(lines: &mut Lines, extensions: Option<&Extensions>) {
     }
 }
 
-// Adds what a certificate says that is an anchor, beyond its name and its key.
+// Adds the fields of a trust anchor that is a certificate, other than its name and its key.
 fn add_certified(lines: &mut Lines, signed: &TbsCertificateInner<Raw>) {
     add_dates(lines, signed.validity());
     add_extensions(lines, signed.extensions());
 }
 
-// Adds what an anchor says beyond its name and its key.
+// Adds the fields of a trust anchor other than its name and its key.
 fn add_beyond(lines: &mut Lines, anchor: &TrustAnchorChoice<Raw>) {
     lines.list("unjudged");
     match anchor {
@@ -63,7 +64,7 @@ fn add_beyond(lines: &mut Lines, anchor: &TrustAnchorChoice<Raw>) {
     lines.end_list();
 }
 
-// Returns the name of an anchor, if it has one.
+// Returns the name of a trust anchor, if it has one.
 fn name_of(anchor: &TrustAnchorChoice<Raw>) -> Option<&Name> {
     match anchor {
         TrustAnchorChoice::Certificate(certificate) => {
@@ -77,7 +78,7 @@ fn name_of(anchor: &TrustAnchorChoice<Raw>) -> Option<&Name> {
     }
 }
 
-// Returns whether a name is that of an issuer, if one is asked for.
+// Returns whether a name is that of the issuer, or no issuer is given.
 fn is_of(name: Option<&Name>, issuer: Option<&Name>) -> bool {
     match (name, issuer) {
         (_, None) => true,
@@ -86,14 +87,15 @@ fn is_of(name: Option<&Name>, issuer: Option<&Name>) -> bool {
     }
 }
 
-// Values that say what isn't judged.
+// A value that has fields that no rule checks.
 trait Unjudged {
-    // Adds it, of the value at a byte, if it is of an issuer that is asked for.
-    fn add_unjudged(&self, lines: &mut Lines, offset: u64, issuer: Option<&Name>);
+    // Adds the unchecked fields of the value at this offset. If an issuer is given, only a value
+    // with that name is included.
+    fn add_unchecked(&self, lines: &mut Lines, offset: u64, issuer: Option<&Name>);
 }
 
 impl Unjudged for TrustAnchorChoice<Raw> {
-    fn add_unjudged(&self, lines: &mut Lines, offset: u64, issuer: Option<&Name>) {
+    fn add_unchecked(&self, lines: &mut Lines, offset: u64, issuer: Option<&Name>) {
         let name = name_of(self);
         if is_of(name, issuer) {
             begin_anchor(lines, offset);
@@ -108,9 +110,9 @@ impl Unjudged for TrustAnchorChoice<Raw> {
     }
 }
 
-// Adds what the value says and isn't judged that begins these bytes, which begin at an offset, if
-// it is of an issuer that is asked for. Answers the bytes after it. Any value is read here, and not
-// an anchor, of which a check takes long to hold one.
+// Decodes the value at the beginning of the bytes, which are at this offset of the file, and adds
+// its unchecked fields. Returns the bytes after it. The function is generic because the proof of a
+// function that holds a trust anchor takes long.
 fn add_front<'a, T: Decode<'a, SliceReader<'a>> + Unjudged + Drop>(
     lines: &mut Lines,
     octets: &'a [u8],
@@ -119,14 +121,14 @@ fn add_front<'a, T: Decode<'a, SliceReader<'a>> + Unjudged + Drop>(
 ) -> Result<&'a [u8], Error> {
     match T::from_der_partial(lines.alloc, octets) {
         Ok((value, behind)) => {
-            value.add_unjudged(lines, offset, issuer);
+            value.add_unchecked(lines, offset, issuer);
             Ok(behind)
         }
         Err(error) => Err(error),
     }
 }
 
-// Adds that of an anchor.
+// Does this for a trust anchor.
 fn add_first<'a>(
     lines: &mut Lines,
     octets: &'a [u8],
@@ -136,9 +138,9 @@ fn add_first<'a>(
     add_front::<TrustAnchorChoice<Raw>>(lines, octets, offset, issuer)
 }
 
-/// Adds what anchors say that isn't judged, one after another; where an issuer is asked for, of
-/// those that have its name.
-pub fn add_unjudged(lines: &mut Lines, octets: &[u8], issuer: Option<&Name>) {
+/// Adds the unchecked fields of each trust anchor. If an issuer is given, only those with its name
+/// are included.
+pub fn add_unchecked(lines: &mut Lines, octets: &[u8], issuer: Option<&Name>) {
     let mut rest = octets;
     for _ in 0..octets.len() {
         if rest.is_empty() {
@@ -155,7 +157,7 @@ pub fn add_unjudged(lines: &mut Lines, octets: &[u8], issuer: Option<&Name>) {
     }
 }
 
-/// Adds why no trust anchor begins these bytes, which begin at an offset of a file.
+/// Adds why these bytes, which are at this offset of the file, don't begin with a trust anchor.
 pub fn add_anchor_fault(lines: &mut Lines, octets: &[u8], offset: u64) {
     if let Err(error) = add_first(lines, octets, offset, None) {
         add_fault(lines, octets, offset, Node::Anchor, &error);

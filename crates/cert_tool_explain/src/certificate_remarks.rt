@@ -1,58 +1,55 @@
-//! What certificates must be beyond DER (RFC 5280 4.1, 4.2): each that isn't so, as a remark.
+//! Remarks on certificates that violate RFC 5280 4.1 or 4.2, though they can be decoded.
 
 use crate::attribute_remarks::add_attribute_remarks;
-use crate::content_faults::add_content_fault;
+use crate::content_errors::add_content_finding;
 use crate::extension_remarks::{
     OF_CERTIFICATES, add_content_remarks, add_mark_remarks, content_in, issuer_key_in,
 };
 use crate::remark_lines::{
-    add_each, add_serial_remarks, begin_remark, end_remark, has_twins, is_long_for_its_year,
+    Subject, add_each, add_serial_remarks, add_twin_remark, extension_at, extensions_at,
+    is_long_for_its_year,
 };
 use cert_tool_describe::cert_certificates::{CertificateInner, TbsCertificateInner};
 use cert_tool_describe::cert_extensions::KeyUsages;
 use cert_tool_describe::cert_kinds::ExtensionKind as Kind;
 use cert_tool_describe::cert_parts::{Extension, Raw, Version};
-use cert_tool_describe::content_fault;
 use cert_tool_describe::der::making::leaf_from_der;
 use cert_tool_describe::policy_types::BasicConstraints;
 use cert_tool_describe::tool_lines::Lines;
 use cert_tool_describe::types::FlagSet;
+use cert_tool_describe::{Node, content_fault, content_place};
 
-// What the extensions of a certificate say of its key and of its names.
+// What the extensions of a certificate say about its key and its names.
 #[derive(Clone, Copy)]
 struct Facts {
     has_key_usage: bool,
-    // What the key may do, where that is read.
+    // The bits of keyUsage, if it can be decoded.
     uses: Option<FlagSet<KeyUsages>>,
     constraints: Option<BasicConstraints>,
-    // Whether constraints are there that aren't read, so that nothing is known of an authority.
+    // Whether basicConstraints can't be decoded, so that it isn't known whether this is a CA.
     are_constraints_unread: bool,
-    are_constraints_critical: bool,
-    // Whether the subject has other names, and the extension is critical.
+    // Whether subjectAltName is present and critical.
     has_critical_names: bool,
     has_key_identifier: bool,
-    // Whether the key of the issuer has its identifier.
+    // Whether authorityKeyIdentifier has a key identifier.
     has_issuer_key: bool,
-    constrains_names: bool,
 }
 
 impl Facts {
-    // Returns the facts of no extension.
+    // Returns the facts without any extension.
     fn new() -> Facts {
         Facts {
             has_key_usage: false,
             uses: None,
             constraints: None,
             are_constraints_unread: false,
-            are_constraints_critical: false,
             has_critical_names: false,
             has_key_identifier: false,
             has_issuer_key: false,
-            constrains_names: false,
         }
     }
 
-    // Takes one more extension.
+    // Adds the facts of an extension.
     fn take(&mut self, lines: &mut Lines, extension: &Extension) {
         let octets = extension.extn_value.as_bytes();
         match Kind::of(&extension.extn_id) {
@@ -65,11 +62,9 @@ impl Facts {
             Some(Kind::BasicConstraints) => {
                 self.constraints = content_in::<BasicConstraints>(lines, octets);
                 self.are_constraints_unread = self.constraints.is_none();
-                self.are_constraints_critical = extension.critical;
             }
-            Some(Kind::NameConstraints) => self.constrains_names = true,
             Some(Kind::AuthorityKeyIdentifier) => {
-                // of one that isn't read nothing is said
+                // An extension that can't be decoded says nothing.
                 self.has_issuer_key = match issuer_key_in(lines, octets) {
                     Some(key) => key.has_identifier,
                     None => true,
@@ -79,7 +74,7 @@ impl Facts {
         }
     }
 
-    // Returns whether an authority is certified.
+    // Returns whether the certificate is known to be that of a CA.
     fn is_authority(&self) -> bool {
         match self.constraints {
             Some(constraints) => constraints.ca,
@@ -87,12 +82,12 @@ impl Facts {
         }
     }
 
-    // Returns whether no authority is certified.
+    // Returns whether the certificate is known not to be that of a CA.
     fn is_no_authority(&self) -> bool {
         !self.are_constraints_unread && !self.is_authority()
     }
 
-    // Returns whether a path length is there.
+    // Returns whether pathLenConstraint is present.
     fn has_path_length(&self) -> bool {
         match self.constraints {
             Some(constraints) => constraints.path_len_constraint.is_some(),
@@ -100,7 +95,7 @@ impl Facts {
         }
     }
 
-    // Returns whether the key may sign certificates, where it is said what it may do.
+    // Returns whether keyUsage has keyCertSign.
     fn signs(&self) -> bool {
         match self.uses {
             Some(uses) => uses.contains(KeyUsages::KeyCertSign),
@@ -117,200 +112,314 @@ fn extensions_of(signed: &TbsCertificateInner<Raw>) -> &[Extension] {
     }
 }
 
-// Of the fields (RFC 5280 4.1.2).
-fn add_field_remarks(lines: &mut Lines, signed: &TbsCertificateInner<Raw>) {
+// Adds the remarks on the fields (RFC 5280 4.1.2).
+fn add_field_remarks(lines: &mut Lines, subject: &Subject<'_>, signed: &TbsCertificateInner<Raw>) {
     let extensions = signed.extensions();
     let is_first = matches!(signed.version(), Version::V1);
     let is_third = matches!(signed.version(), Version::V3);
     let has_ids = signed.issuer_unique_id().is_some() || signed.subject_unique_id().is_some();
+    let id = if signed.issuer_unique_id().is_some() {
+        "issuerUniqueID"
+    } else {
+        "subjectUniqueID"
+    };
     add_each(
         lines,
+        subject,
         &[
             (
                 extensions.is_some() && !is_third,
-                "extensions stand in a certificate that isn't of version 3",
+                "extensions-without-version",
+                "it has extensions, but its version isn't v3",
                 "RFC 5280 4.1.2.1",
+                "extensions",
             ),
             (
                 extensions.is_some() && extensions_of(signed).is_empty(),
+                "extensions-empty",
                 "the list of extensions is empty",
                 "RFC 5280 4.1.2.9",
+                "extensions",
             ),
             (
                 has_ids && is_first,
-                "unique identifiers stand in a certificate of version 1",
+                "unique-identifiers-without-version",
+                "it has unique identifiers, but its version is v1",
                 "RFC 5280 4.1.2.8",
+                id,
             ),
             (
                 has_ids,
-                "unique identifiers are not to be made",
+                "unique-identifiers",
+                "conforming CAs must not generate unique identifiers",
                 "RFC 5280 4.1.2.8",
+                id,
             ),
             (
                 signed.issuer().is_empty(),
+                "issuer-empty",
                 "the issuer is an empty name",
                 "RFC 5280 4.1.2.4",
+                "issuer",
             ),
         ],
     );
-    add_serial_remarks(lines, signed.serial_number().as_bytes());
+    add_serial_remarks(lines, subject, signed.serial_number().as_bytes());
 }
 
-// Of the dates (RFC 5280 4.1.2.5).
-fn add_date_remarks(lines: &mut Lines, signed: &TbsCertificateInner<Raw>) {
+// Adds the remarks on the validity period (RFC 5280 4.1.2.5).
+fn add_date_remarks(lines: &mut Lines, subject: &Subject<'_>, signed: &TbsCertificateInner<Raw>) {
     let first = &signed.validity().not_before;
     let last = &signed.validity().not_after;
     add_each(
         lines,
+        subject,
         &[
             (
                 is_long_for_its_year(first),
+                "date-generalized",
                 "notBefore is a GeneralizedTime before 2050",
                 "RFC 5280 4.1.2.5",
+                "validity.notBefore",
             ),
             (
                 is_long_for_its_year(last),
+                "date-generalized",
                 "notAfter is a GeneralizedTime before 2050",
                 "RFC 5280 4.1.2.5",
+                "validity.notAfter",
             ),
             (
                 last.to_date_time().unix_seconds() < first.to_date_time().unix_seconds(),
+                "dates-reversed",
                 "notAfter is before notBefore",
                 "RFC 5280 4.1.2.5",
+                "validity.notAfter",
             ),
         ],
     );
 }
 
-// Of who is certified, and by whom.
-fn add_party_remarks(lines: &mut Lines, signed: &TbsCertificateInner<Raw>, facts: &Facts) {
+// Adds the remarks on the subject and the issuer.
+fn add_party_remarks<'a>(
+    lines: &mut Lines,
+    subject: &Subject<'a>,
+    signed: &'a TbsCertificateInner<Raw>,
+    facts: &Facts,
+) {
     let is_nameless = signed.subject().is_empty();
     let is_self_issued = signed.issuer().has_octets_of(signed.subject());
-    add_attribute_remarks(lines, signed.issuer());
+    add_attribute_remarks(lines, subject, "issuer", signed.issuer());
     if !is_self_issued {
-        add_attribute_remarks(lines, signed.subject());
+        add_attribute_remarks(lines, subject, "subject", signed.subject());
     }
     add_each(
         lines,
+        subject,
         &[
             (
                 is_nameless && facts.is_authority(),
+                "ca-subject-empty",
                 "the subject of a CA is an empty name",
                 "RFC 5280 4.1.2.6",
+                "subject",
             ),
             (
                 is_nameless && !facts.has_critical_names,
-                "the subject is empty, and no critical subjectAltName names it",
+                "subject-empty",
+                "the subject is empty, and there is no critical subjectAltName",
                 "RFC 5280 4.1.2.6",
+                "subject",
             ),
             (
                 !is_self_issued && !facts.has_issuer_key,
-                "no authorityKeyIdentifier has a key's identifier",
+                "issuer-key-unnamed",
+                "it has no authorityKeyIdentifier with a keyIdentifier",
                 "RFC 5280 4.2.1.1",
+                "extensions",
             ),
         ],
     );
 }
 
-// Of the key and what it may do.
-fn add_key_remarks(lines: &mut Lines, facts: &Facts) {
+// Adds the remarks on the key and its usage.
+fn add_key_remarks(lines: &mut Lines, subject: &Subject<'_>, facts: &Facts) {
     let is_authority = facts.is_authority();
-    let is_none = facts.is_no_authority();
-    let has_length = facts.has_path_length();
     add_each(
         lines,
+        subject,
         &[
             (
                 is_authority && !facts.has_key_identifier,
+                "ca-key-unnamed",
                 "a CA has no subjectKeyIdentifier",
                 "RFC 5280 4.2.1.2",
+                "extensions",
             ),
             (
                 is_authority && !facts.has_key_usage,
+                "ca-without-key-usage",
                 "a CA has no keyUsage",
                 "RFC 5280 4.2.1.3",
-            ),
-            (
-                facts.signs() && is_none,
-                "keyCertSign stands without cA",
-                "RFC 5280 4.2.1.3",
-            ),
-            (
-                is_authority && !facts.are_constraints_critical,
-                "basicConstraints of a CA aren't critical",
-                "RFC 5280 4.2.1.9",
-            ),
-            (
-                has_length && is_none,
-                "a path length stands without cA",
-                "RFC 5280 4.2.1.9",
-            ),
-            (
-                has_length && facts.uses.is_some() && !facts.signs(),
-                "a path length stands without keyCertSign",
-                "RFC 5280 4.2.1.9",
-            ),
-            (
-                facts.constrains_names && is_none,
-                "nameConstraints stand without cA",
-                "RFC 5280 4.2.1.10",
+                "extensions",
             ),
         ],
     );
 }
 
-/// Adds what a certificate must not be, though it is read and no rule of a chain forbids it.
-pub fn add_certificate_remarks(lines: &mut Lines, signed: &TbsCertificateInner<Raw>) {
+// Adds the remarks on extensions that must, or must not, be together.
+fn add_beside_remarks(
+    lines: &mut Lines,
+    subject: &Subject<'_>,
+    extension: &Extension,
+    facts: &Facts,
+) {
+    let is_none = facts.is_no_authority();
+    let has_length = facts.has_path_length();
+    let length = "pathLenConstraint";
+    match Kind::of(&extension.extn_id) {
+        Some(Kind::KeyUsage) => add_each(
+            lines,
+            subject,
+            &[
+                (
+                    facts.signs() && is_none,
+                    "cert-sign-without-ca",
+                    "keyCertSign is set, but cA isn't",
+                    "RFC 5280 4.2.1.3",
+                    "",
+                ),
+                (
+                    matches!(extension.extn_value.as_bytes(), [3, 1, 0]),
+                    "key-usage-empty",
+                    "no bit of keyUsage is set",
+                    "RFC 5280 4.2.1.3",
+                    "",
+                ),
+            ],
+        ),
+        Some(Kind::BasicConstraints) => add_each(
+            lines,
+            subject,
+            &[
+                (
+                    facts.is_authority() && !extension.critical,
+                    "ca-not-critical",
+                    "basicConstraints of a CA aren't critical",
+                    "RFC 5280 4.2.1.9",
+                    "",
+                ),
+                (
+                    has_length && is_none,
+                    "path-length-without-ca",
+                    "there is a pathLenConstraint, but cA isn't set",
+                    "RFC 5280 4.2.1.9",
+                    length,
+                ),
+                (
+                    has_length && facts.uses.is_some() && !facts.signs(),
+                    "path-length-without-cert-sign",
+                    "there is a pathLenConstraint, but keyCertSign isn't set",
+                    "RFC 5280 4.2.1.9",
+                    length,
+                ),
+            ],
+        ),
+        Some(Kind::NameConstraints) => add_each(
+            lines,
+            subject,
+            &[(
+                is_none,
+                "name-constraints-without-ca",
+                "there are nameConstraints, but cA isn't set",
+                "RFC 5280 4.2.1.10",
+                "",
+            )],
+        ),
+        _ => {}
+    }
+}
+
+/// Adds the remarks on a certificate: the violations of RFC 5280 that no rule of path validation
+/// checks.
+pub fn add_certificate_remarks<'a>(
+    lines: &mut Lines,
+    subject: &Subject<'a>,
+    signed: &'a TbsCertificateInner<Raw>,
+) {
     let mut facts = Facts::new();
     for extension in extensions_of(signed) {
         facts.take(lines, extension);
     }
-    add_field_remarks(lines, signed);
-    add_date_remarks(lines, signed);
-    add_party_remarks(lines, signed, &facts);
-    add_key_remarks(lines, &facts);
+    add_field_remarks(lines, subject, signed);
+    add_date_remarks(lines, subject, signed);
+    add_party_remarks(lines, subject, signed, &facts);
+    add_key_remarks(lines, subject, &facts);
+    let mut places = extensions_at(subject, "extensions");
     for extension in extensions_of(signed) {
-        add_mark_remarks(lines, extension, &OF_CERTIFICATES);
-        add_content_remarks(lines, extension);
-        let kind = Kind::of(&extension.extn_id);
-        if let (Some(Kind::KeyUsage), [3, 1, 0]) = (kind, extension.extn_value.as_bytes()) {
-            add_each(lines, &[(true, "keyUsage has no use", "RFC 5280 4.2.1.3")]);
-        }
+        let part = extension_at(subject, places.next(), extension, "extensions");
+        add_mark_remarks(lines, &part, extension, &OF_CERTIFICATES);
+        add_content_remarks(lines, &part, extension);
+        add_beside_remarks(lines, &part, extension, &facts);
     }
 }
 
-// Adds which of these extensions aren't what they should be.
-pub fn add_malformed_remarks(lines: &mut Lines, extensions: &[Extension]) {
+// Adds the remarks on extensions whose content is malformed. The extensions are at the end of a
+// path of fields.
+pub fn add_malformed_remarks<'a>(
+    lines: &mut Lines,
+    subject: &Subject<'a>,
+    extensions: &'a [Extension],
+    path: &'static str,
+) {
+    let mut places = extensions_at(subject, path);
     for extension in extensions {
+        let place = places.next();
         if let Some(error) = content_fault(lines.alloc, extension) {
-            begin_remark(lines);
-            match add_content_fault(lines, extension, &error) {
-                "" => end_remark(lines, "RFC 5280 4.2"),
-                section => end_remark(lines, section),
-            }
+            let part = extension_at(subject, place, extension, path);
+            add_content_finding(lines, &part, None, extension, &error);
         }
     }
 }
 
-// Adds what a certificate breaks of the rules of chains by itself, and these remarks.
-pub fn add_lone_remarks(lines: &mut Lines, certificate: &CertificateInner<Raw>) {
+/// Returns the signed part of the certificate that begins at this offset of a file.
+pub fn certificate_at(octets: &[u8], offset: u64) -> Subject<'_> {
+    let place = content_place(octets, 0);
+    Subject {
+        octets,
+        offset,
+        place,
+        inner: place,
+        node: Node::TbsCertificate,
+        path: "",
+        identifier: None,
+    }
+}
+
+// Adds the rules of path validation that a certificate breaks by itself, and the remarks on it.
+pub fn add_lone_remarks<'a>(
+    lines: &mut Lines,
+    octets: &'a [u8],
+    certificate: &'a CertificateInner<Raw>,
+) {
     let signed = certificate.tbs_certificate();
+    let subject = certificate_at(octets, 0);
     let differ = !signed
         .signature()
         .has_octets_of(certificate.signature_algorithm());
     let extensions = extensions_of(signed);
-    let is_twice = has_twins(lines, extensions);
     add_each(
         lines,
-        &[
-            (
-                differ,
-                "signature and signatureAlgorithm differ",
-                "RFC 5280 4.1.1.2",
-            ),
-            (is_twice, "an extension stands twice", "RFC 5280 4.2"),
-        ],
+        &subject.at(0, Node::Certificate, ""),
+        &[(
+            differ,
+            "algorithms-differ",
+            "signature and signatureAlgorithm differ",
+            "RFC 5280 4.1.1.2",
+            "signatureAlgorithm",
+        )],
     );
-    add_malformed_remarks(lines, extensions);
-    add_certificate_remarks(lines, signed);
+    add_twin_remark(lines, &subject, extensions, "extensions");
+    add_malformed_remarks(lines, &subject, extensions, "extensions");
+    add_certificate_remarks(lines, &subject, signed);
 }

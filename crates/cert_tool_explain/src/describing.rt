@@ -1,20 +1,19 @@
-//! Descriptions of files.
+//! The command `describe KIND`.
 
 ghost use Rattle.std.specs.Prelude.{◌≢◌, IfNone, IfOk, IfSome};
 ghost use Rattle.cert_tool_describe.specs.Der.ErrorTypes.ErrorKind.TheVariants.{OutOfMemory};
 ghost use Rattle.cert_desk_checking.specs.DeskIo.Devices.{sink};
-ghost use Rattle.cert_tool_explain.specs.Describing.{IsDescribed, IsOfKind, IsRefusalTold};
+ghost use Rattle.cert_tool_explain.specs.Describing.{IsDescribed, IsOfKind, IsErrorExplained};
 
+use crate::file_report::explain_octets;
 use crate::kind::Kind;
-use crate::refusal::explain_octets;
 use cert_desk_checking::desk_io::{ExitStatus, Output, answer, complain, tell_memory};
 use cert_tool_describe::der::ErrorKind;
 use cert_tool_describe::tool_lines::Lines;
 use cert_tool_describe::{add_certificate, add_list, add_request};
 use std::alloc::{AllocError, Global};
 
-// Adds the lines of what these bytes encode; answers why they spell no value of the kind, if they
-// don't.
+// Adds the description of a file of this kind, or returns the error if the bytes can't be decoded.
 fn add_described(lines: &mut Lines, kind: Kind, octets: &[u8]) -> Option<ErrorKind>
     ensures of_kind { IfNone result (IsOfKind kind octets.now) }
     ensures refused { IfSome result
@@ -27,7 +26,7 @@ fn add_described(lines: &mut Lines, kind: Kind, octets: &[u8]) -> Option<ErrorKi
     }
 }
 
-// Returns the description of what these bytes encode, if they spell a value of the kind.
+// Returns the description of a file of this kind, or the error if the bytes can't be decoded.
 fn described(
     alloc: Global,
     kind: Kind,
@@ -50,18 +49,18 @@ fn described(
     }
 }
 
-// Tells why bytes aren't of a kind.
+// Reports why the bytes can't be decoded.
 fn refuse<E: Output>(alloc: Global, kind: Kind, octets: &[u8], err: &mut E) -> ExitStatus
-    ensures { IsRefusalTold (sink E.gives E.failures err.old err.new) result }
+    ensures { IsErrorExplained (sink E.gives E.failures err.old err.new) result }
 {
     match explain_octets(alloc, octets, kind, false) {
-        Ok(text) => complain(err, text.as_slice(), ExitStatus::Faulty),
+        Ok(explained) => complain(err, explained.text.as_slice(), ExitStatus::Faulty),
         Err(_) => tell_memory(err),
     }
 }
 
-/// Writes the description of what these bytes encode to `out`, with digests if they are asked for,
-/// or to `err` why they aren't of the kind, and answers the exit status.
+/// Writes the description of a file of this kind to `out`, with digests if `has_digests`. If the
+/// bytes can't be decoded, the reason is written to `err`. Returns the exit status.
 pub fn describe<O: Output, E: Output>(
     alloc: Global,
     kind: Kind,

@@ -1,9 +1,7 @@
-//! What the extensions of certificates and lists must be (RFC 5280 4.2, 5.2, 5.3): each that isn't
-//! so, as a remark.
+//! Remarks on extensions of certificates and CRLs that violate RFC 5280 4.2, 5.2 or 5.3.
 
 use crate::name_remarks::add_name_remarks;
-use crate::remark_lines::{Seen, add_each, begin_remark, end_remark};
-use cert_tool_describe::Describe;
+use crate::remark_lines::{Seen, Subject, add_each, add_where, begin_remark, end_at, end_text};
 use cert_tool_describe::cert_extensions::CrlDistributionPoints;
 use cert_tool_describe::cert_general_names::{
     AuthorityKeyIdentifier, GeneralName, GeneralSubtree, IssuingDistributionPoint, NameConstraints,
@@ -13,11 +11,12 @@ use cert_tool_describe::cert_parts::Extension;
 use cert_tool_describe::oid::ObjectIdentifier;
 use cert_tool_describe::policy_types::{CertificatePolicies, PolicyConstraints, PolicyMappings};
 use cert_tool_describe::tool_lines::{Lines, known_name};
+use cert_tool_describe::{Describe, Inside};
 
-/// A kind, whether it is to be critical, and the section.
+/// An extension, whether it must be critical, and the section that says so.
 pub type Mark = (Kind, bool, &'static str);
 
-/// The kinds in certificates (RFC 5280 4.2).
+/// The extensions of certificates (RFC 5280 4.2).
 pub const OF_CERTIFICATES: [Mark; 9] = [
     (Kind::SubjectDirectoryAttributes, false, "RFC 5280 4.2.1.8"),
     (Kind::SubjectKeyIdentifier, false, "RFC 5280 4.2.1.2"),
@@ -30,7 +29,7 @@ pub const OF_CERTIFICATES: [Mark; 9] = [
     (Kind::SubjectInfoAccess, false, "RFC 5280 4.2.2.2"),
 ];
 
-/// The kinds in lists (RFC 5280 5.2).
+/// The extensions of CRLs (RFC 5280 5.2).
 pub const OF_LISTS: [Mark; 6] = [
     (Kind::CrlNumber, false, "RFC 5280 5.2.3"),
     (Kind::DeltaCrlIndicator, true, "RFC 5280 5.2.4"),
@@ -40,8 +39,10 @@ pub const OF_LISTS: [Mark; 6] = [
     (Kind::AuthorityInfoAccess, false, "RFC 5280 5.2.7"),
 ];
 
-// The kinds whose content must not be an empty sequence, each with the section.
-const FILLED: [(Kind, &str); 10] = [
+// The extensions whose content must not be an empty sequence, each with the section.
+const FILLED: [(Kind, &str); 14] = [
+    (Kind::SubjectDirectoryAttributes, "RFC 5280 4.2.1.8"),
+    (Kind::PrivateKeyUsagePeriod, "RFC 3280 4.2.1.4"),
     (Kind::SubjectAltName, "RFC 5280 4.2.1.6"),
     (Kind::IssuerAltName, "RFC 5280 4.2.1.7"),
     (Kind::IssuingDistributionPoint, "RFC 5280 5.2.5"),
@@ -52,18 +53,27 @@ const FILLED: [(Kind, &str); 10] = [
     (Kind::PolicyConstraints, "RFC 5280 4.2.1.11"),
     (Kind::ExtKeyUsage, "RFC 5280 4.2.1.12"),
     (Kind::FreshestCrl, "RFC 5280 4.2.1.15"),
+    (Kind::AuthorityInfoAccess, "RFC 5280 4.2.2.1"),
+    (Kind::SubjectInfoAccess, "RFC 5280 4.2.2.2"),
 ];
 
-// Adds a remark of an extension by the name of its kind, and the section.
-fn add_of(lines: &mut Lines, extension: &Extension, text: &str, section: &str) {
+// Adds a remark on an extension, with its name, the section and the identifier of the remark.
+fn add_of(
+    lines: &mut Lines,
+    subject: &Subject<'_>,
+    extension: &Extension,
+    text: &str,
+    section: &str,
+    identifier: &str,
+) {
     begin_remark(lines);
     lines.push(known_name(extension.extn_id.as_bytes()).unwrap_or(""));
     lines.push(text);
-    end_remark(lines, section);
+    end_at(lines, section, identifier, subject, "");
 }
 
-// Adds that the content of an extension is an empty sequence, which must not be one.
-fn add_empty_remark(lines: &mut Lines, extension: &Extension) {
+// Adds a remark if the content of an extension is an empty sequence, and must not be.
+fn add_empty_remark(lines: &mut Lines, subject: &Subject<'_>, extension: &Extension) {
     let Some(kind) = Kind::of(&extension.extn_id) else {
         return;
     };
@@ -71,31 +81,37 @@ fn add_empty_remark(lines: &mut Lines, extension: &Extension) {
         for row in &FILLED {
             let (filled, section) = *row;
             if filled == kind {
-                add_of(lines, extension, " is an empty sequence", section);
+                let text = " is an empty sequence";
+                add_of(lines, subject, extension, text, section, "extension-empty");
             }
         }
     }
 }
 
-// Adds whether extensions are critical that must not be, or the other way round.
-pub fn add_mark_remarks(lines: &mut Lines, extension: &Extension, marks: &[Mark]) {
+// Adds remarks on extensions that are critical and must not be, or aren't critical and must be.
+pub fn add_mark_remarks(
+    lines: &mut Lines,
+    subject: &Subject<'_>,
+    extension: &Extension,
+    marks: &[Mark],
+) {
     let Some(kind) = Kind::of(&extension.extn_id) else {
         return;
     };
     for row in marks {
         let (marked, is_critical, section) = *row;
         if marked == kind && is_critical != extension.critical {
-            let text = if is_critical {
-                " isn't critical"
+            let (text, identifier) = if is_critical {
+                (" isn't critical", "extension-not-critical")
             } else {
-                " is critical"
+                (" is critical", "extension-critical")
             };
-            add_of(lines, extension, text, section);
+            add_of(lines, subject, extension, text, section, identifier);
         }
     }
 }
 
-// Returns the content that bytes encode, if they spell one.
+// Decodes the content of an extension, or returns `None` if that fails.
 pub fn content_in<T: Describe + Drop>(lines: &mut Lines, octets: &[u8]) -> Option<T> {
     match T::read_content(lines.alloc, octets) {
         Ok(content) => Some(content),
@@ -106,15 +122,15 @@ pub fn content_in<T: Describe + Drop>(lines: &mut Lines, octets: &[u8]) -> Optio
     }
 }
 
-// How the key of the issuer is named.
+// How authorityKeyIdentifier identifies the issuer's key.
 #[derive(Clone, Copy)]
 pub struct IssuerKey {
     pub has_identifier: bool,
-    // Whether one of issuer and serial number stands without the other.
+    // Whether it has one of issuer and serial number without the other.
     pub is_half: bool,
 }
 
-// Returns how a content names the key of the issuer, if it is read.
+// Decodes authorityKeyIdentifier, or returns `None` if that fails.
 pub fn issuer_key_in(lines: &mut Lines, octets: &[u8]) -> Option<IssuerKey> {
     match content_in::<AuthorityKeyIdentifier>(lines, octets) {
         Some(key) => Some(IssuerKey {
@@ -126,14 +142,14 @@ pub fn issuer_key_in(lines: &mut Lines, octets: &[u8]) -> Option<IssuerKey> {
     }
 }
 
-// Of other names.
-fn add_names_remarks(lines: &mut Lines, octets: &[u8]) {
+// Adds the remarks on subjectAltName and issuerAltName.
+fn add_names_remarks(lines: &mut Lines, subject: &Subject<'_>, octets: &[u8]) {
     if let Some(listed) = content_in::<Vec<GeneralName>>(lines, octets) {
-        add_name_remarks(lines, listed.as_slice());
+        add_name_remarks(lines, subject, listed.as_slice());
     }
 }
 
-// Returns whether a base is an address without its mask, or with half of one (RFC 5280 4.2.1.10).
+// Returns whether an iPAddress of a subtree isn't an address with its mask (RFC 5280 4.2.1.10).
 fn is_no_range(name: &GeneralName) -> bool {
     match name {
         GeneralName::IpAddress(octets) => {
@@ -144,8 +160,13 @@ fn is_no_range(name: &GeneralName) -> bool {
     }
 }
 
-// Of subtrees.
-fn add_subtree_remarks(lines: &mut Lines, subtrees: &[GeneralSubtree]) {
+// Adds the remarks on the subtrees at this path.
+fn add_subtree_remarks(
+    lines: &mut Lines,
+    subject: &Subject<'_>,
+    subtrees: &[GeneralSubtree],
+    path: &'static str,
+) {
     let mut has_distance = false;
     let mut has_no_range = false;
     for subtree in subtrees {
@@ -154,85 +175,114 @@ fn add_subtree_remarks(lines: &mut Lines, subtrees: &[GeneralSubtree]) {
     }
     add_each(
         lines,
+        subject,
         &[
             (
                 has_distance,
+                "name-constraints-distance",
                 "nameConstraints have a minimum or a maximum",
                 "RFC 5280 4.2.1.10",
+                path,
             ),
             (
                 has_no_range,
-                "nameConstraints have an address without a mask of its size",
+                "name-constraints-mask",
+                "an address in nameConstraints has no mask of the same length",
                 "RFC 5280 4.2.1.10",
+                path,
             ),
         ],
     );
 }
 
-// Of constraints on names.
-fn add_constraint_remarks(lines: &mut Lines, octets: &[u8]) {
+// Adds the remarks on nameConstraints.
+fn add_constraint_remarks(lines: &mut Lines, subject: &Subject<'_>, octets: &[u8]) {
     let Some(constraints) = content_in::<NameConstraints>(lines, octets) else {
         return;
     };
-    for subtrees in [
-        &constraints.permitted_subtrees,
-        &constraints.excluded_subtrees,
-    ] {
-        if let Some(subtrees) = subtrees {
-            add_subtree_remarks(lines, subtrees.as_slice());
+    if let Some(subtrees) = &constraints.permitted_subtrees {
+        add_subtree_remarks(lines, subject, subtrees.as_slice(), "permittedSubtrees");
+    }
+    if let Some(subtrees) = &constraints.excluded_subtrees {
+        add_subtree_remarks(lines, subject, subtrees.as_slice(), "excludedSubtrees");
+    }
+}
+
+// Adds the remarks on distribution points: the first one that has neither a name nor a cRLIssuer.
+fn add_point_remarks(lines: &mut Lines, subject: &Subject<'_>, octets: &[u8]) {
+    let Some(points) = content_in::<CrlDistributionPoints>(lines, octets) else {
+        return;
+    };
+    for (number, point) in points.0.iter().enumerate() {
+        if point.distribution_point.is_none() && point.crl_issuer.is_none() {
+            begin_remark(lines);
+            lines.push("a distribution point has neither a name nor an issuer");
+            end_text(lines, "RFC 5280 4.2.1.13");
+            let place = Inside::of(subject.octets, subject.inner).nth(number);
+            add_where(lines, "distribution-point-unnamed", subject, "", place);
+            return;
         }
     }
 }
 
-// Of points where lists stand.
-fn add_point_remarks(lines: &mut Lines, octets: &[u8]) {
-    let Some(points) = content_in::<CrlDistributionPoints>(lines, octets) else {
-        return;
-    };
-    let mut is_bare = false;
-    for point in &points.0 {
-        is_bare = is_bare || (point.distribution_point.is_none() && point.crl_issuer.is_none());
-    }
-    let text = "a distribution point has neither a name nor an issuer";
-    add_each(lines, &[(is_bare, text, "RFC 5280 4.2.1.13")]);
-}
-
-// Of the certificates that a list has (RFC 5280 5.2.5).
-fn add_scope_remarks(lines: &mut Lines, octets: &[u8]) {
+// Adds the remarks on issuingDistributionPoint (RFC 5280 5.2.5).
+fn add_scope_remarks(lines: &mut Lines, subject: &Subject<'_>, octets: &[u8]) {
     let Some(point) = content_in::<IssuingDistributionPoint>(lines, octets) else {
         return;
     };
     add_each(
         lines,
+        subject,
         &[
             (
                 point.only_contains_user_certs && point.only_contains_ca_certs,
-                "a CRL has only certificates of end entities, and only of CAs",
+                "crl-scope-empty",
+                "issuingDistributionPoint has both onlyContainsUserCerts and onlyContainsCACerts",
                 "RFC 5280 5.2.5",
+                "onlyContainsCACerts",
             ),
             (
                 point.only_contains_attribute_certs,
-                "a CRL has only attribute certificates",
+                "crl-scope-attributes",
+                "issuingDistributionPoint has onlyContainsAttributeCerts",
                 "RFC 5280 5.2.5",
+                "onlyContainsAttributeCerts",
             ),
         ],
     );
 }
 
-// Of policies.
-fn add_policy_remarks(lines: &mut Lines, octets: &[u8]) {
+// Adds that the policy with this number in the list is a duplicate.
+fn add_policy_remark(
+    lines: &mut Lines,
+    subject: &Subject<'_>,
+    number: usize,
+    policy: &ObjectIdentifier<39>,
+) {
+    begin_remark(lines);
+    lines.push("a policy is listed twice");
+    end_text(lines, "RFC 5280 4.2.1.4");
+    lines.tail(": ");
+    lines.key("policy");
+    lines.brace();
+    lines.members_of(policy);
+    lines.end_brace();
+    let place = Inside::of(subject.octets, subject.inner).nth(number);
+    add_where(lines, "policy-twice", subject, "policyIdentifier", place);
+}
+
+// Adds the remarks on certificatePolicies: the first policy that is a duplicate.
+fn add_policy_remarks(lines: &mut Lines, subject: &Subject<'_>, octets: &[u8]) {
     let Some(policies) = content_in::<CertificatePolicies>(lines, octets) else {
         return;
     };
     let mut seen = Seen::new(lines.alloc);
-    let mut has_twins = false;
-    for policy in &policies.0 {
-        has_twins = seen.take(lines, policy.policy_identifier.as_bytes()) || has_twins;
+    for (number, policy) in policies.0.iter().enumerate() {
+        if seen.take(lines, policy.policy_identifier.as_bytes()) {
+            add_policy_remark(lines, subject, number, &policy.policy_identifier);
+            return;
+        }
     }
-    add_each(
-        lines,
-        &[(has_twins, "a policy stands twice", "RFC 5280 4.2.1.4")],
-    );
 }
 
 // Returns whether an identifier is anyPolicy, 2.5.29.32.0.
@@ -240,45 +290,62 @@ fn is_any_policy(identifier: &ObjectIdentifier<39>) -> bool {
     matches!(identifier.as_bytes(), [0x55, 0x1d, 0x20, 0])
 }
 
-// Of policies that stand for others.
-fn add_mapping_remarks(lines: &mut Lines, octets: &[u8]) {
+// Adds the remarks on policyMappings: the first mapping from or to anyPolicy.
+fn add_mapping_remarks(lines: &mut Lines, subject: &Subject<'_>, octets: &[u8]) {
     let Some(mappings) = content_in::<PolicyMappings>(lines, octets) else {
         return;
     };
-    let mut has_any = false;
-    for mapping in &mappings.0 {
-        has_any = has_any
-            || is_any_policy(&mapping.issuer_domain_policy)
-            || is_any_policy(&mapping.subject_domain_policy);
+    for (number, mapping) in mappings.0.iter().enumerate() {
+        let is_issuers = is_any_policy(&mapping.issuer_domain_policy);
+        if is_issuers || is_any_policy(&mapping.subject_domain_policy) {
+            begin_remark(lines);
+            lines.push("anyPolicy is mapped");
+            end_text(lines, "RFC 5280 4.2.1.5");
+            let place = Inside::of(subject.octets, subject.inner).nth(number);
+            let path = if is_issuers {
+                "issuerDomainPolicy"
+            } else {
+                "subjectDomainPolicy"
+            };
+            add_where(lines, "any-policy-mapped", subject, path, place);
+            return;
+        }
     }
-    add_each(
-        lines,
-        &[(has_any, "anyPolicy is mapped", "RFC 5280 4.2.1.5")],
-    );
 }
 
-// Of the key of the issuer.
-fn add_issuer_key_remarks(lines: &mut Lines, octets: &[u8]) {
+// Adds the remarks on authorityKeyIdentifier.
+fn add_issuer_key_remarks(lines: &mut Lines, subject: &Subject<'_>, octets: &[u8]) {
     if let Some(key) = issuer_key_in(lines, octets) {
-        let text = "authorityKeyIdentifier has one of issuer and serial number";
-        add_each(lines, &[(key.is_half, text, "RFC 5280 A.2")]);
+        add_each(
+            lines,
+            subject,
+            &[(
+                key.is_half,
+                "issuer-key-half",
+                "authorityKeyIdentifier has one of issuer and serial number, but not both",
+                "RFC 5280 A.2",
+                "",
+            )],
+        );
     }
 }
 
-// Adds what the content of an extension must not be, though it is one value of its kind.
-pub fn add_content_remarks(lines: &mut Lines, extension: &Extension) {
+// Adds the remarks on the content of an extension that can be decoded.
+pub fn add_content_remarks(lines: &mut Lines, subject: &Subject<'_>, extension: &Extension) {
     let octets = extension.extn_value.as_bytes();
-    add_empty_remark(lines, extension);
+    add_empty_remark(lines, subject, extension);
     match Kind::of(&extension.extn_id) {
-        Some(Kind::SubjectAltName) | Some(Kind::IssuerAltName) => add_names_remarks(lines, octets),
-        Some(Kind::IssuingDistributionPoint) => add_scope_remarks(lines, octets),
-        Some(Kind::NameConstraints) => add_constraint_remarks(lines, octets),
-        Some(Kind::CrlDistributionPoints) | Some(Kind::FreshestCrl) => add_point_remarks(
-            lines, octets,
-        ),
-        Some(Kind::CertificatePolicies) => add_policy_remarks(lines, octets),
-        Some(Kind::PolicyMappings) => add_mapping_remarks(lines, octets),
-        Some(Kind::AuthorityKeyIdentifier) => add_issuer_key_remarks(lines, octets),
+        Some(Kind::SubjectAltName) | Some(Kind::IssuerAltName) => {
+            add_names_remarks(lines, subject, octets)
+        }
+        Some(Kind::IssuingDistributionPoint) => add_scope_remarks(lines, subject, octets),
+        Some(Kind::NameConstraints) => add_constraint_remarks(lines, subject, octets),
+        Some(Kind::CrlDistributionPoints) | Some(Kind::FreshestCrl) => {
+            add_point_remarks(lines, subject, octets)
+        }
+        Some(Kind::CertificatePolicies) => add_policy_remarks(lines, subject, octets),
+        Some(Kind::PolicyMappings) => add_mapping_remarks(lines, subject, octets),
+        Some(Kind::AuthorityKeyIdentifier) => add_issuer_key_remarks(lines, subject, octets),
         _ => {}
     }
 }

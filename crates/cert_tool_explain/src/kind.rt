@@ -1,6 +1,6 @@
-//! What files hold.
+//! The kinds of files.
 
-/// What a file holds.
+/// The kind of value that a file contains.
 #[derive(Clone, Copy)]
 pub enum Kind {
     /// A certificate.

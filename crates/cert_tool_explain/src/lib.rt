@@ -1,66 +1,63 @@
-//! Why bytes aren't read, and what RFC 5280 asks of what is read.
+//! Explains why bytes can't be decoded and why chains are rejected, and reports violations of RFC
+//! 5280 in values that can be decoded.
 #![tactic(auto)]
 
-mod alike_names;
-mod anchor_refusal;
 mod anchors;
+mod anchors_report;
 mod attribute_remarks;
-mod breaches;
+mod broken_rules;
 mod certificate_remarks;
-mod chain_place;
-mod content_faults;
+mod chain_entry;
+mod content_errors;
 mod describing;
+mod error_lines;
+mod error_reasons;
+mod explained;
 mod extension_remarks;
-mod fault_words;
-mod faults;
-mod heard;
-mod inner_parts;
+mod file_report;
 mod kind;
 mod list_remarks;
 mod name_remarks;
-mod parts;
 mod reasons;
-mod refusal;
 mod remark_lines;
 mod remarks;
 mod serial_numbers;
-mod stream_refusal;
-mod way_down;
+mod signed_answers;
+mod similar_names;
+mod stream_report;
+mod unchecked_extensions;
 
-pub use anchor_refusal::explain_anchors;
-pub use breaches::{Judged, add_chain};
-pub use certificate_remarks::add_certificate_remarks;
-pub use content_faults::add_content_fault;
+pub use anchors_report::explain_anchors;
+pub use broken_rules::{ValidatedChain, add_chain, are_kept};
 pub use describing::describe;
-pub use faults::add_fault;
-pub use heard::Heard;
+pub use error_lines::add_fault;
+pub use explained::Explained;
+pub use file_report::{explain_octets, is_pem};
 pub use kind::Kind;
-pub use parts::Node;
-pub use refusal::{explain_octets, is_pem};
-pub use remark_lines::{begin_remark, end_remark};
-pub use stream_refusal::explain_stream;
+pub use signed_answers::SignedAnswers;
+pub use stream_report::explain_stream;
 
-/// The names of `x509_cert_certificates` that the crates above use.
+/// The items of `x509_cert_certificates` that the crates above use.
 pub mod cert_certificates {
     pub use cert_tool_describe::cert_certificates::CertificateInner;
 }
 
-/// The names of `x509_cert_names` that the crates above use.
+/// The items of `x509_cert_names` that the crates above use.
 pub mod cert_names {
     pub use cert_tool_describe::cert_names::Name;
 }
 
-/// The names of `x509_cert_parts` that the crates above use.
+/// The items of `x509_cert_parts` that the crates above use.
 pub mod cert_parts {
     pub use cert_tool_describe::cert_parts::Raw;
 }
 
-/// The names of `cert_desk_bundle` that the crates above use.
+/// The items of `cert_desk_bundle` that the crates above use.
 pub mod desk_bundle {
     pub use cert_desk_checking::desk_bundle::{Bundle, BundleError, Standing};
 }
 
-/// The names of `cert_desk_checking` that the crates above use.
+/// The items of `cert_desk_checking` that the crates above use.
 pub mod desk_checking {
     pub use cert_desk_checking::{
         Anchor, AnchorsError, Outcome, anchors_in, anchors_line, chain_lines, find_outcome,
@@ -68,7 +65,7 @@ pub mod desk_checking {
     };
 }
 
-/// The names of `cert_desk_io` that the crates above use.
+/// The items of `cert_desk_io` that the crates above use.
 pub mod desk_io {
     pub use cert_desk_checking::desk_io::{
         DeviceError, ExitStatus, FrameError, FromRead, HostFiles, Input, MemoryInput, NamedInputs,
@@ -77,27 +74,27 @@ pub mod desk_io {
     };
 }
 
-/// The names of `cert_desk_rules` that the crates above use.
+/// The items of `cert_desk_rules` that the crates above use.
 pub mod desk_rules {
     pub use cert_desk_checking::desk_rules::{Answer, AnswersJudge, Checked, KeptRules, Verdict};
 }
 
-/// The names of `const_oid` that the crates above use.
+/// The items of `const_oid` that the crates above use.
 pub mod oid {
     pub use cert_tool_describe::oid::{Error, ObjectIdentifier};
 }
 
-/// The names of `cert_tool_describe` that the crates above use.
+/// The items of `cert_tool_describe` that the crates above use.
 pub mod tool_describe {
     pub use cert_tool_describe::add_certificate;
 }
 
-/// The names of `cert_tool_lines` that the crates above use.
+/// The items of `cert_tool_lines` that the crates above use.
 pub mod tool_lines {
     pub use cert_tool_describe::tool_lines::Lines;
 }
 
-/// The names of `der_types` that the crates above use.
+/// The items of `der_types` that the crates above use.
 pub mod types {
     pub use cert_tool_describe::types::DateTime;
 }

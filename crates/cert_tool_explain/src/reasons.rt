@@ -1,7 +1,8 @@
-//! Why a certificate breaks a rule of its extensions, or of path lengths.
+//! Explains why a certificate breaks a rule on its extensions or on path lengths.
 
-use crate::chain_place::ChainPlace;
-use crate::{add_content_fault, end_remark};
+use crate::chain_entry::ChainEntry;
+use crate::content_errors::add_content_fault;
+use crate::remark_lines::end_remark;
 use cert_desk_checking::desk_bundle::Bundle;
 use cert_desk_checking::desk_rules::{KeptRules, Reason, Rule};
 use cert_desk_checking::reason_of;
@@ -10,7 +11,7 @@ use cert_tool_describe::content_fault;
 use cert_tool_describe::oid::ObjectIdentifier;
 use cert_tool_describe::tool_lines::Lines;
 
-// Begins a rule that is broken, and the reason.
+// Begins a broken rule and its reason.
 pub(crate) fn begin_breach(lines: &mut Lines, rule: Rule) {
     lines.entry("");
     lines.key("rule");
@@ -20,13 +21,13 @@ pub(crate) fn begin_breach(lines: &mut Lines, rule: Rule) {
     lines.begin();
 }
 
-// Begins a text more about it, in an array of such.
+// Begins a text in the array of details.
 pub(crate) fn begin_detail(lines: &mut Lines) {
     lines.item("");
     lines.begin();
 }
 
-// Adds how an extension breaks a rule by itself; answers the section that says so.
+// Adds how an extension breaks a rule by itself. Returns the section that it violates.
 fn add_against(
     lines: &mut Lines,
     rule: Rule,
@@ -38,7 +39,7 @@ fn add_against(
         Rule::MalformedExtension => match content_fault(lines.alloc, extension) {
             Some(error) => add_content_fault(lines, extension, &error),
             None => {
-                lines.identifier("", kind, " isn't one value of its kind");
+                lines.identifier("", kind, " is malformed");
                 ""
             }
         },
@@ -55,15 +56,15 @@ fn add_against(
             lines.identifier("", kind, " lacks keyCertSign");
             "RFC 5280 6.1.4 (n)"
         }
-        // Of these no extension is the reason.
+        // No extension is the reason for the other rules.
         _ => "",
     }
 }
 
-// Adds which extensions are of one kind; answers the section that says so.
+// Adds which extensions are duplicates. Returns the section that they violate.
 fn add_twins(
     lines: &mut Lines,
-    place: &ChainPlace<'_>,
+    place: &ChainEntry<'_>,
     first: usize,
     second: usize,
 ) -> &'static str {
@@ -75,10 +76,10 @@ fn add_twins(
     "RFC 5280 4.2"
 }
 
-// Adds a reason; answers the section that says so.
+// Adds a reason. Returns the section that it violates.
 fn add_reason(
     lines: &mut Lines,
-    place: &ChainPlace<'_>,
+    place: &ChainEntry<'_>,
     rule: Rule,
     reason: Reason,
     purpose: &ObjectIdentifier<39>,
@@ -90,7 +91,7 @@ fn add_reason(
         },
         Reason::Twins { first, second } => add_twins(lines, place, first, second),
         Reason::NoConstraints => {
-            lines.push("no basicConstraints make it a CA");
+            lines.push("it has no basicConstraints with cA");
             "RFC 5280 6.1.4 (k)"
         }
         Reason::PathLength { place } => {
@@ -101,10 +102,10 @@ fn add_reason(
     }
 }
 
-// Adds the line of a rule that is broken.
+// Adds a line for a broken rule.
 fn add_broken(
     lines: &mut Lines,
-    place: &ChainPlace<'_>,
+    place: &ChainEntry<'_>,
     rule: Rule,
     reason: Reason,
     purpose: &ObjectIdentifier<39>,
@@ -114,7 +115,7 @@ fn add_broken(
     end_remark(lines, section);
 }
 
-// Returns the first reason why the certificate at a place breaks a rule.
+// Returns the first reason for which a certificate breaks a rule.
 fn first_reason(
     lines: &mut Lines,
     bundle: &Bundle,
@@ -131,10 +132,10 @@ fn first_reason(
     }
 }
 
-// Adds that the certificate at a place breaks a rule, with its first reason.
+// Adds that a certificate breaks a rule, with its first reason.
 pub(crate) fn add_reason_of(
     lines: &mut Lines,
-    place: &ChainPlace<'_>,
+    place: &ChainEntry<'_>,
     rule: Rule,
     purpose: &ObjectIdentifier<39>,
 ) {
@@ -143,18 +144,18 @@ pub(crate) fn add_reason_of(
     }
 }
 
-// Why paths are too long. The further on a place stands, the further before stands the first one
-// whose path length it exceeds. So from the place on that has the reason of the last one, all have
-// it; and since a path length is at most 255, at most so many come before that.
+// Finds the reasons for paths that are too long. The later a certificate is, the earlier is the
+// first one whose path length it exceeds. So once a certificate has the same reason as the last
+// one, all later ones do; and since a path length is at most 255, at most that many come before.
 #[derive(Drop)]
 pub(crate) struct LengthReasons {
     last: Option<Reason>,
-    // Whether that of a place was the last one's.
+    // Whether the previous certificate had the same reason as the last one.
     is_settled: bool,
 }
 
 impl LengthReasons {
-    // With that of the last place whose path is too long.
+    // Begins with the reason of the last certificate whose path is too long.
     pub(crate) fn of(
         lines: &mut Lines,
         bundle: &Bundle,
@@ -176,11 +177,11 @@ impl LengthReasons {
         }
     }
 
-    // Adds that the path to a place is too long, with its first reason.
+    // Adds that the path to a certificate is too long, with the first reason.
     pub(crate) fn add(
         &mut self,
         lines: &mut Lines,
-        place: &ChainPlace<'_>,
+        place: &ChainEntry<'_>,
         purpose: &ObjectIdentifier<39>,
     ) {
         let rule = Rule::PathTooLong;

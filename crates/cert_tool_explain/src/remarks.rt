@@ -1,11 +1,13 @@
-//! What no rule of a chain forbids, and who issued it may not have meant.
+//! Remarks on a certificate in its chain: what no rule forbids, but the issuer may not have
+//! intended.
 
-use crate::chain_place::ChainPlace;
-use crate::{add_certificate_remarks, begin_remark, end_remark};
+use crate::certificate_remarks::{add_certificate_remarks, certificate_at};
+use crate::chain_entry::ChainEntry;
+use crate::remark_lines::{Subject, begin_remark, end_at};
 use cert_tool_describe::tool_lines::Lines;
 
-// Adds that a certificate is valid after the one before isn't any more.
-fn add_date_remark(lines: &mut Lines, place: &ChainPlace<'_>) {
+// Adds a remark if a certificate is valid after the certificate before it has expired.
+fn add_date_remark(lines: &mut Lines, subject: &Subject<'_>, place: &ChainEntry<'_>) {
     let Some(before) = place.before() else {
         return;
     };
@@ -15,27 +17,28 @@ fn add_date_remark(lines: &mut Lines, place: &ChainPlace<'_>) {
         begin_remark(lines);
         lines.show("it is valid until ", this, ", and its issuer until ");
         lines.show("", earlier, "");
-        end_remark(lines, "");
+        end_at(lines, "", "outlives-issuer", subject, "validity.notAfter");
     }
 }
 
-// Adds which earlier certificate has the same issuer and serial number (RFC 5280 4.1.2.2).
-fn add_twin_remark(lines: &mut Lines, twin: Option<usize>) {
+// Adds a remark if an earlier certificate has the same issuer and serial number (RFC 5280 4.1.2.2).
+fn add_twin_remark(lines: &mut Lines, subject: &Subject<'_>, twin: Option<usize>) {
     if let Some(number) = twin {
         begin_remark(lines);
         lines.show(
             "certificate ",
             number as u64,
-            " of the same issuer has its serial number",
+            " has the same issuer and serial number",
         );
-        end_remark(lines, "");
+        end_at(lines, "", "serial-number-twice", subject, "serialNumber");
     }
 }
 
-// Adds what is unwise at a place, though no rule forbids it. The twin is the last place before of
-// the same issuer and serial number.
-pub(crate) fn add_remarks(lines: &mut Lines, place: &ChainPlace<'_>, twin: Option<usize>) {
-    add_date_remark(lines, place);
-    add_twin_remark(lines, twin);
-    add_certificate_remarks(lines, place.certificate.tbs_certificate());
+// Adds the remarks on a certificate. `twin` is the index of the last earlier certificate with the
+// same issuer and serial number.
+pub(crate) fn add_remarks(lines: &mut Lines, place: &ChainEntry<'_>, twin: Option<usize>) {
+    let subject = certificate_at(place.octets, place.offset);
+    add_date_remark(lines, &subject, place);
+    add_twin_remark(lines, &subject, twin);
+    add_certificate_remarks(lines, &subject, place.certificate.tbs_certificate());
 }

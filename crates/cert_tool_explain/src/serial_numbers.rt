@@ -1,13 +1,13 @@
-//! Serial numbers of the certificates of a chain.
+//! Finds certificates of a chain with the same issuer and serial number.
 
-use crate::chain_place::ChainPlace;
+use crate::chain_entry::ChainEntry;
 use cert_tool_describe::der::ToDer;
 use cert_tool_describe::tool_lines::Lines;
 use std::alloc::{AllocError, Global};
 use std::collections::BTreeMap;
 
-// Who gave a certificate its serial number, and that number: the bytes of both.
-fn identity_of(alloc: Global, place: &ChainPlace<'_>) -> Result<Vec<u8>, AllocError> {
+// Returns the encodings of the issuer and of the serial number.
+fn identity_of(alloc: Global, place: &ChainEntry<'_>) -> Result<Vec<u8>, AllocError> {
     let Ok(mut octets) = place.issuer().to_der(alloc) else {
         return Err(AllocError);
     };
@@ -16,22 +16,23 @@ fn identity_of(alloc: Global, place: &ChainPlace<'_>) -> Result<Vec<u8>, AllocEr
     Ok(octets)
 }
 
-// The last place of each issuer and serial number so far.
+// For each issuer and serial number, the index of the last certificate that has them.
 #[derive(Drop)]
 pub(crate) struct SerialNumbers {
     places: BTreeMap<Vec<u8>, usize>,
 }
 
 impl SerialNumbers {
-    // Before the first place.
+    // Returns the empty map.
     pub(crate) fn new(alloc: Global) -> SerialNumbers {
         SerialNumbers {
             places: BTreeMap::new(alloc),
         }
     }
 
-    // Takes one place more; answers the last one before of the same issuer and serial number.
-    pub(crate) fn take(&mut self, lines: &mut Lines, place: &ChainPlace<'_>) -> Option<usize> {
+    // Adds a certificate, and returns the index of the last earlier one with the same issuer and
+    // serial number.
+    pub(crate) fn take(&mut self, lines: &mut Lines, place: &ChainEntry<'_>) -> Option<usize> {
         let Ok(identity) = identity_of(lines.alloc, place) else {
             lines.fail();
             return None;

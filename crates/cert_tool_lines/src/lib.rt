@@ -1,5 +1,5 @@
-//! Texts that are written line by line, or as one document of JSON, with the names of identifiers
-//! that are well known.
+//! Texts that are written line by line, or as one JSON document, and the names of well-known object
+//! identifiers.
 #![tactic(auto)]
 
 mod known_names;
@@ -8,7 +8,7 @@ mod lines;
 pub use known_names::known_name;
 pub use lines::Lines;
 
-/// The names of `x509_cert_parts` that the crates above use.
+/// The items of `x509_cert_parts` that the crates above use.
 pub mod cert_parts {
     pub use x509_cert_parts::{
         AlgorithmIdentifier, Extension, Extensions, Raw, SubjectPublicKeyInfo, Time, Validity,
@@ -16,7 +16,7 @@ pub mod cert_parts {
     };
 }
 
-/// The names of `der_types` that the crates above use.
+/// The items of `der_types` that the crates above use.
 pub mod types {
     pub use x509_cert_parts::types::{
         Any, BitString, DateTime, FlagSet, GeneralizedTime, NamedBits, OctetString, Uint,

@@ -1,4 +1,5 @@
-//! Texts that are written line by line, or as one document of JSON (RFC 8259), by the same calls.
+//! A writer of texts that are either lines or one JSON document (RFC 8259), with the same calls for
+//! both.
 
 use crate::known_names::known_name;
 use std::alloc::{AllocError, Global};
@@ -9,38 +10,41 @@ use x509_cert_parts::Time;
 use x509_cert_parts::der::ErrorKind;
 use x509_cert_parts::oid::ObjectIdentifier;
 
-// The digits in base 16.
+// The hexadecimal digits.
 const DIGITS: [u8; 16] = *b"0123456789ABCDEF";
 
-/// A text that is added to, part by part. If memory runs out for something, that is noted, and
-/// `finish` is rejected; so what adds to it has no error of its own.
+/// A text to which parts are appended. If an allocation fails, that is recorded, and `finish`
+/// returns the error; so the calls that append have no errors of their own.
 ///
-/// As lines, parts stand after a margin, and values after words, with a blank between them. As
-/// JSON, what stands between `open` and `close` are the members of an object, each begun by its
-/// key, and between `list` and `end_list` the items of an array. The document is one object.
+/// As lines, a part comes after the indentation, and a value comes after its words and a space. As
+/// JSON, the calls between `open` and `close` append the members of an object, each beginning with
+/// its key, and those between `list` and `end_list` append the items of an array. The document is
+/// one object.
 #[derive(Drop)]
 pub struct Lines {
     pub alloc: Global,
     pub is_json: bool,
-    // Whether a description has digests.
+    // Whether a description includes digests.
     pub has_digests: bool,
+    // Whether an explanation has a remark, an error or a broken rule.
+    pub has_remarks: bool,
     text: Vec<u8>,
-    // How deep the line stands.
+    // The nesting depth of the line.
     depth: u32,
-    // Whether nothing is on the line, or in the object or array, that the next part must be set off
-    // from.
+    // Whether nothing precedes the next part on the line, or in the object or array.
     is_first: bool,
-    // Whether there was no memory for something.
+    // Whether an allocation failed.
     has_failed: bool,
 }
 
 impl Lines {
-    /// No lines yet, or the beginning of a document.
+    /// Returns an empty text, or the beginning of a document.
     pub fn new(alloc: Global, is_json: bool) -> Lines {
         let mut lines = Lines {
             alloc,
             is_json,
             has_digests: false,
+            has_remarks: false,
             text: Vec::new(alloc),
             depth: 0,
             is_first: true,
@@ -52,7 +56,7 @@ impl Lines {
         lines
     }
 
-    /// Returns the text of all lines, or the document.
+    /// Returns the lines, or the document.
     pub fn finish(mut self) -> Result<Vec<u8>, AllocError> {
         if self.is_json {
             self.add(b"}\n");
@@ -65,33 +69,33 @@ impl Lines {
         Ok(self.text)
     }
 
-    /// Notes that there was no memory for something.
+    /// Records that an allocation failed.
     pub fn fail(&mut self) {
         self.has_failed = true;
     }
 
-    /// Notes it, if that is why something couldn't be read.
+    /// Records that an allocation failed, if that is the kind of the error.
     pub fn note(&mut self, kind: ErrorKind) {
         if kind == ErrorKind::OutOfMemory {
             self.has_failed = true;
         }
     }
 
-    // Adds bytes.
+    // Appends bytes.
     fn add(&mut self, octets: &[u8]) {
         if self.text.extend_from_slice(octets).is_err() {
             self.has_failed = true;
         }
     }
 
-    // Adds a byte.
+    // Appends a byte.
     fn add_one(&mut self, octet: u8) {
         if self.text.push(octet).is_err() {
             self.has_failed = true;
         }
     }
 
-    // Sets the next part off from the one before.
+    // Appends the separator between the previous part and the next one.
     fn part(&mut self, separator: u8) {
         if !self.is_first {
             self.add_one(separator);
@@ -113,7 +117,7 @@ impl Lines {
         self.is_first = true;
     }
 
-    /// Adds a word to a line, if it is one.
+    /// Appends words to a line; nothing if they are empty.
     pub fn word(&mut self, word: &str) {
         if !self.is_json && !word.is_empty() {
             self.part(b' ');
@@ -121,7 +125,7 @@ impl Lines {
         }
     }
 
-    /// Adds to a line what stands right after what is there, and before the next part.
+    /// Appends text to a line without a separator before it.
     pub fn tail(&mut self, tail: &str) {
         if !self.is_json {
             self.add(tail.as_bytes());
@@ -139,70 +143,71 @@ impl Lines {
         }
     }
 
-    /// Begins a member on a line of its own, which a word begins.
+    /// Begins a member on a line of its own, which begins with this word.
     pub fn row(&mut self, word: &str, key: &str) {
         self.line();
         self.word(word);
         self.key(key);
     }
 
-    /// Adds a member that is a text of the program's own.
+    /// Appends a member with a text that needs no escapes.
     pub fn text_member(&mut self, key: &str, text: &str) {
         self.key(key);
         self.text(text);
     }
 
-    /// Adds a member that is a number in decimal.
+    /// Appends a member with a decimal number.
     pub fn count_member(&mut self, key: &str, count: u64) {
         self.key(key);
         self.count(count);
     }
 
-    /// Adds a member that is a text of the program's own on a line of its own, which a word begins.
+    /// Appends a member with a text that needs no escapes, on a line of its own that begins with
+    /// this word.
     pub fn text_row(&mut self, word: &str, key: &str, text: &str) {
         self.row(word, key);
         self.text(text);
     }
 
-    /// Adds a member that is a number in decimal on a line of its own.
+    /// Appends a member with a decimal number, on a line of its own.
     pub fn count_row(&mut self, word: &str, key: &str, count: u64) {
         self.row(word, key);
         self.count(count);
     }
 
-    /// Adds a member that is a date on a line of its own.
+    /// Appends a member with a date, on a line of its own.
     pub fn date_row(&mut self, word: &str, key: &str, date: &Time) {
         self.row(word, key);
         self.date(date);
     }
 
-    /// Adds a member that is bytes in base 16 on a line of its own.
+    /// Appends a member with bytes in hex, on a line of its own.
     pub fn octets_row(&mut self, word: &str, key: &str, octets: &[u8]) {
         self.row(word, key);
         self.octets(octets);
     }
 
-    /// Adds a member that is a number of these bytes on a line of its own.
+    /// Appends a member with the INTEGER that has these content bytes, on a line of its own.
     pub fn number_row(&mut self, word: &str, key: &str, octets: &[u8]) {
         self.row(word, key);
         self.number(octets);
     }
 
-    /// Begins an item of an array on a line of its own, which a word begins.
+    /// Begins an item of an array on a line of its own, which begins with this word.
     pub fn item(&mut self, word: &str) {
         self.comma();
         self.line();
         self.word(word);
     }
 
-    /// Begins an item of an array, whose lines are those of its members.
+    /// Begins an item of an array whose members are on lines of their own.
     pub fn comma(&mut self) {
         if self.is_json {
             self.part(b',');
         }
     }
 
-    /// Begins an object: the lines of its members stand where they stood.
+    /// Begins an object whose members aren't indented further.
     pub fn brace(&mut self) {
         if self.is_json {
             self.add_one(b'{');
@@ -210,7 +215,7 @@ impl Lines {
         }
     }
 
-    /// Ends such an object.
+    /// Ends an object that `brace` began.
     pub fn end_brace(&mut self) {
         if self.is_json {
             self.add_one(b'}');
@@ -218,25 +223,25 @@ impl Lines {
         }
     }
 
-    /// Begins an object: the lines of its members stand deeper.
+    /// Begins an object whose members are indented further.
     pub fn open(&mut self) {
         self.depth = self.depth.saturating_add(1);
         self.brace();
     }
 
-    /// Ends such an object.
+    /// Ends an object that `open` began.
     pub fn close(&mut self) {
         self.depth = self.depth.saturating_sub(1);
         self.end_brace();
     }
 
-    /// Begins a member that is an object, on a line of its own.
+    /// Begins a member with an object, on a line of its own.
     pub fn node(&mut self, word: &str, key: &str) {
         self.row(word, key);
         self.open();
     }
 
-    /// Begins an item that is an object, on a line of its own.
+    /// Begins an item with an object, on a line of its own.
     pub fn entry(&mut self, word: &str) {
         self.item(word);
         self.open();
@@ -259,7 +264,7 @@ impl Lines {
         }
     }
 
-    /// Begins a value that is a text.
+    /// Begins a text.
     pub fn begin(&mut self) {
         if self.is_json {
             self.add_one(b'"');
@@ -268,19 +273,19 @@ impl Lines {
         }
     }
 
-    /// Ends a value that is a text.
+    /// Ends a text.
     pub fn end(&mut self) {
         if self.is_json {
             self.add_one(b'"');
         }
     }
 
-    /// Adds a part of a text in which nothing has to be escaped.
+    /// Appends a part of a text that needs no escapes.
     pub fn push(&mut self, part: &str) {
         self.add(part.as_bytes());
     }
 
-    /// Adds a part of a text as it prints itself; nothing in it has to be escaped.
+    /// Appends a part of a text with `Display`, between two others; none of them needs escapes.
     pub fn show<D: fmt::Display + Drop>(&mut self, before: &str, value: D, behind: &str) {
         self.push(before);
         if write!(self, "{value}").is_err() {
@@ -289,7 +294,7 @@ impl Lines {
         self.push(behind);
     }
 
-    // Adds the arcs of an identifier to a text, with dots between them. Most are one digit.
+    // Appends an object identifier in dotted arcs to a text. Most arcs have one digit.
     fn arcs(&mut self, identifier: &ObjectIdentifier<39>) {
         let mut is_first = true;
         for arc in identifier.arcs() {
@@ -305,7 +310,7 @@ impl Lines {
         }
     }
 
-    /// Adds an identifier to a text, with its name if it has one.
+    /// Appends an object identifier to a text, with its name if it has one.
     pub fn identifier(&mut self, before: &str, identifier: &ObjectIdentifier<39>, behind: &str) {
         self.push(before);
         match known_name(identifier.as_bytes()) {
@@ -320,7 +325,16 @@ impl Lines {
         self.push(behind);
     }
 
-    /// Adds a name to a text, or a part of one (RFC 4514), in which a backslash is an escape.
+    /// Appends the name of an object identifier to a text, or the dotted arcs if it has none.
+    pub fn short_identifier(&mut self, identifier: &ObjectIdentifier<39>) {
+        match known_name(identifier.as_bytes()) {
+            Some(name) => self.push(name),
+            None => self.arcs(identifier),
+        }
+    }
+
+    /// Appends a name, or a part of one, to a text (RFC 4514, in which a backslash begins an
+    /// escape).
     pub fn name<D: fmt::Display>(&mut self, before: &str, name: &D, behind: &str) {
         self.push(before);
         match name.to_string(self.alloc) {
@@ -330,8 +344,8 @@ impl Lines {
         self.push(behind);
     }
 
-    // Adds such a text that was printed: what isn't printable stands as `\XX` on a line, for each
-    // byte of UTF-8.
+    // Appends a text that `Display` printed. On a line, a character that isn't printable is written
+    // as `\XX` for each byte of its UTF-8.
     pub fn printed(&mut self, text: &str) {
         if is_plain(text.as_bytes()) || (!self.is_json && is_ascii_printable(text.as_bytes())) {
             self.push(text);
@@ -342,8 +356,8 @@ impl Lines {
         }
     }
 
-    /// Adds a text of a file, on a line with the backslash escaped too: no two texts are alike
-    /// then.
+    /// Appends a text from a file. On a line, backslashes are escaped too, so that different texts
+    /// are never printed alike.
     pub fn plain(&mut self, text: &str) {
         if is_plain(text.as_bytes()) {
             self.push(text);
@@ -354,7 +368,7 @@ impl Lines {
         }
     }
 
-    /// Adds a character of such a text.
+    /// Appends a character of a text from a file.
     pub fn letter(&mut self, letter: char) {
         if letter == '\\' && !self.is_json {
             self.push("\\5C");
@@ -363,7 +377,7 @@ impl Lines {
         }
     }
 
-    // Adds a character, or an escape for it.
+    // Appends a character, or its escape.
     fn printable(&mut self, letter: char) {
         let mut octets = [0; 4];
         if self.is_json {
@@ -379,8 +393,8 @@ impl Lines {
         }
     }
 
-    // Adds a character of a string of JSON (RFC 8259 7): quote and backslash after a backslash, and
-    // what isn't printable after `\u`, in UTF-16.
+    // Appends a character of a JSON string (RFC 8259 7). Quotes and backslashes follow a backslash,
+    // and characters that aren't printable are `\u` escapes in UTF-16.
     fn escaped(&mut self, letter: char) {
         if letter == '"' || letter == '\\' {
             self.add_one(b'\\');
@@ -397,14 +411,14 @@ impl Lines {
         }
     }
 
-    // Adds a byte in base 16.
+    // Appends a byte in hex.
     fn pair(&mut self, octet: u8) {
         let [high, low] = pair_of(octet);
         self.add_one(high);
         self.add_one(low);
     }
 
-    // Adds bytes in base 16, with nothing between them.
+    // Appends bytes in hex without separators.
     fn joined_pairs(&mut self, octets: &[u8]) {
         let (groups, rest) = octets.as_chunks::<16>();
         for group in groups {
@@ -415,8 +429,8 @@ impl Lines {
         }
     }
 
-    // Adds bytes in base 16, each after this.
-    fn pairs_behind(&mut self, octets: &[u8], separator: u8) {
+    // Appends bytes in hex, each after this separator.
+    fn pairs_after(&mut self, octets: &[u8], separator: u8) {
         let (groups, rest) = octets.as_chunks::<16>();
         for group in groups {
             self.add(&separated_pairs_of(group, separator));
@@ -427,33 +441,33 @@ impl Lines {
         }
     }
 
-    /// Adds bytes in base 16, with this between them, if anything.
+    /// Appends bytes in hex, with this separator between them, if there is one.
     pub fn pairs(&mut self, before: &str, octets: &[u8], separator: Option<u8>) {
         self.push(before);
         match (separator, octets) {
             (Some(separator), [first, rest @ ..]) => {
                 self.pair(*first);
-                self.pairs_behind(rest, separator);
+                self.pairs_after(rest, separator);
             }
             (_, octets) => self.joined_pairs(octets),
         }
     }
 
-    /// Adds a value that is a text of the program's own.
+    /// Appends a text that needs no escapes, as a value.
     pub fn text(&mut self, text: &str) {
         self.begin();
         self.push(text);
         self.end();
     }
 
-    /// Adds a value as it prints itself.
+    /// Appends a value with `Display`.
     pub fn value<D: fmt::Display + Drop>(&mut self, value: D) {
         self.begin();
         self.show("", value, "");
         self.end();
     }
 
-    /// Adds a number in decimal.
+    /// Appends a decimal number.
     pub fn count(&mut self, count: u64) {
         if !self.is_json {
             self.part(b' ');
@@ -461,7 +475,7 @@ impl Lines {
         self.show("", count, "");
     }
 
-    /// Adds whether something holds.
+    /// Appends a boolean.
     pub fn truth(&mut self, holds: bool) {
         if self.is_json {
             self.push(if holds { "true" } else { "false" });
@@ -470,7 +484,7 @@ impl Lines {
         }
     }
 
-    /// Adds a member that tells whether something holds: these words, where it does.
+    /// Appends a boolean member. As a line, it is these words, if the boolean is true.
     pub fn mark(&mut self, words: &str, key: &str, holds: bool) {
         self.key(key);
         if self.is_json {
@@ -480,19 +494,19 @@ impl Lines {
         }
     }
 
-    /// Adds that a content isn't what it should be.
+    /// Appends that a content is malformed.
     pub fn malformed(&mut self, key: &str, kind: ErrorKind) {
         self.note(kind);
         self.line();
         self.mark("malformed", key, true);
     }
 
-    /// Adds a date.
+    /// Appends a date.
     pub fn date(&mut self, date: &Time) {
         self.value(date);
     }
 
-    /// Adds a byte of a value that begins at an offset of a file.
+    /// Appends the position of a byte, and the offset of the value that has it.
     pub fn place(&mut self, offset: u64, octet: u64) {
         self.word("octet");
         if self.is_json || offset > 0 {
@@ -502,7 +516,7 @@ impl Lines {
         self.count_member("octet", octet);
     }
 
-    /// Adds the members of an identifier: itself, and its name if it has one.
+    /// Appends the members of an object identifier: its dotted arcs, and its name if it has one.
     pub fn members_of(&mut self, identifier: &ObjectIdentifier<39>) {
         if self.is_json {
             self.key("id");
@@ -518,36 +532,36 @@ impl Lines {
         }
     }
 
-    /// Adds a text of a file.
+    /// Appends a text from a file, as a value.
     pub fn plain_value(&mut self, text: &str) {
         self.begin();
         self.plain(text);
         self.end();
     }
 
-    /// Adds the text of a name, or of a part of one.
+    /// Appends the text of a name, or of a part of one.
     pub fn name_value<D: fmt::Display>(&mut self, name: &D) {
         self.begin();
         self.name("", name, "");
         self.end();
     }
 
-    /// Adds bytes in base 16, with a colon between them.
+    /// Appends bytes in hex, with colons between them.
     pub fn octets(&mut self, octets: &[u8]) {
         self.begin();
         self.pairs("", octets, Some(b':'));
         self.end();
     }
 
-    /// Adds a number in base 16, of its bytes, after `0x`.
+    /// Appends a natural number in hex after `0x`.
     pub fn natural(&mut self, octets: &[u8]) {
         self.begin();
         self.pairs("0x", octets, None);
         self.end();
     }
 
-    /// Adds a number in base 16, of the bytes of an INTEGER: as OpenSSL prints it, without a zero
-    /// byte in front, and below zero the amount after a sign.
+    /// Appends the INTEGER with these content bytes in hex, as OpenSSL prints it: without a leading
+    /// zero byte, and with a sign before the absolute value of a negative one.
     pub fn number(&mut self, octets: &[u8]) {
         match octets {
             [0, rest @ ..] if !rest.is_empty() => self.natural(rest),
@@ -561,8 +575,8 @@ impl Lines {
         }
     }
 
-    // Adds the amount of a number below zero: each byte's complement, and one more than that, which
-    // is carried over the zeros at the end; without a zero byte in front.
+    // Appends the absolute value of a negative INTEGER: the two's complement, without a leading
+    // zero byte.
     fn opposite(&mut self, octets: &[u8]) {
         let mut last = 0;
         for place in 0..octets.len() {
@@ -580,7 +594,7 @@ impl Lines {
         }
     }
 
-    /// Adds the section that says so, if one does.
+    /// Appends the section that a finding refers to, if there is one.
     pub fn section(&mut self, section: &str) {
         if self.is_json && !section.is_empty() {
             self.text_member("section", section);
@@ -589,7 +603,7 @@ impl Lines {
         }
     }
 
-    /// Adds an item that says this.
+    /// Appends an item with this text.
     pub fn finding(&mut self, finding: &str) {
         self.entry("");
         self.text_member("finding", finding);
@@ -597,7 +611,7 @@ impl Lines {
     }
 }
 
-// What prints itself adds its text.
+// Lets `Display` append to the text.
 impl Write for Lines {
     fn write_str(&mut self, part: &str) -> fmt::Result {
         self.push(part);
@@ -605,7 +619,7 @@ impl Write for Lines {
     }
 }
 
-// Returns the digits of a byte.
+// Returns the hexadecimal digits of a byte.
 fn pair_of(octet: u8) -> [u8; 2] {
     [
         DIGITS[usize::from(octet >> 4)],
@@ -613,7 +627,7 @@ fn pair_of(octet: u8) -> [u8; 2] {
     ]
 }
 
-// Returns the digits of sixteen bytes.
+// Returns the hexadecimal digits of sixteen bytes.
 fn pairs_of(octets: &[u8; 16]) -> [u8; 32] {
     let mut text = [0; 32];
     for place in 0..16 {
@@ -624,7 +638,7 @@ fn pairs_of(octets: &[u8; 16]) -> [u8; 32] {
     text
 }
 
-// Returns the digits of sixteen bytes, each after this.
+// Returns the hexadecimal digits of sixteen bytes, each after this separator.
 fn separated_pairs_of(octets: &[u8; 16], separator: u8) -> [u8; 48] {
     let mut text = [separator; 48];
     for place in 0..16 {
@@ -635,7 +649,7 @@ fn separated_pairs_of(octets: &[u8; 16], separator: u8) -> [u8; 48] {
     text
 }
 
-// Returns whether bytes are printable characters of ASCII.
+// Returns whether bytes are printable ASCII.
 fn is_ascii_printable(text: &[u8]) -> bool {
     for octet in text {
         if *octet < b' ' || *octet > b'~' {
@@ -645,7 +659,7 @@ fn is_ascii_printable(text: &[u8]) -> bool {
     true
 }
 
-// Returns whether bytes are printable characters of ASCII that nothing escapes.
+// Returns whether bytes are printable ASCII without characters that are escaped.
 fn is_plain(text: &[u8]) -> bool {
     for octet in text {
         if *octet < b' ' || *octet > b'~' || *octet == b'\\' || *octet == b'"' {
@@ -655,8 +669,8 @@ fn is_plain(text: &[u8]) -> bool {
     true
 }
 
-// Returns whether a character stands for itself in a line: Unicode calls it a letter, mark, number,
-// punctuation or symbol, or it is the blank.
+// Returns whether a character needs no escape in a line: it is a space, or Unicode calls it a
+// letter, mark, number, punctuation or symbol.
 fn is_printable(letter: char) -> bool {
     if letter.is_ascii() {
         return letter >= ' ' && letter != '\x7f';

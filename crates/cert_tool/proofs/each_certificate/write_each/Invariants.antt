@@ -1,7 +1,8 @@
--- The stream was read, and what is said of its certificates written, and no call failed.
+-- The stream was read up to here, the descriptions of its certificates were written, and no call
+-- failed.
 use Rattle.cert_tool_explain.specs.DeskIo.Devices.{sink, source}
-use Rattle.cert_tool.specs.Passing.{HasMoved}
-use Rattle.cert_tool.proofs.PassedLaws.{SoFar}
+use Rattle.cert_tool.specs.DescribedStreams.{HasMoved}
+use Rattle.cert_tool.proofs.DescribedStreamLaws.{SoFar}
 use Rattle.cert_tool.proofs.each_certificate.write_each.Given as goal
 
 abbrev pub invariant-pieces : goal.invariant-pieces

@@ -1,4 +1,4 @@
--- The answers are read, and the chain is explained by them.
+-- The answers are read, and the chain is explained with them.
 use Rattle.std.proofs.Common.{inl, map}
 use Rattle.cert_tool_explain.specs.DeskRules.Answers.{answer_plain}
 use Rattle.cert_tool.proofs.explaining.explain_chain.Goals as goal

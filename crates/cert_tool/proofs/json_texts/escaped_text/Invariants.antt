@@ -1,4 +1,4 @@
--- what is escaped so far, and what is left, are all
+-- The characters that were escaped so far and those that remain are all characters of the text.
 use Rattle.std.proofs.Common.{◌≡◌, ◌++◌, IsUtf8, string_bytes}
 use Rattle.std.specs.Str.Iter.{chars_rest}
 use Rattle.cert_tool.specs.JsonTexts.{escaped_text}

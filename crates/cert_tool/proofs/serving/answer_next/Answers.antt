@@ -1,4 +1,4 @@
--- What was read, and the reply that was written or cut.
+-- What was read, and the answer that was written or whose write failed.
 use Rattle.std.proofs.Common.{ℕ, inr, refl, subst}
 use Rattle.std.specs.Global.{Vec}
 use Rattle.std.specs.Option.{option_map}

@@ -1,8 +1,8 @@
--- The next reply goes out after those so far, or what ends the run is reported.
+-- The next answer is written after those before it, or what ends the run is reported.
 use Rattle.std.proofs.Common.{[], inl, inr, refl, subst}
 use Rattle.cert_tool_explain.specs.DeskIo.Devices.{sink}
 use Rattle.cert_tool_explain.specs.DeskIo.declared.frame_error.FrameError.TheVariants as errors
-use Rattle.cert_tool.specs.Serving.{IsUnservedTold, none}
+use Rattle.cert_tool.specs.Serving.{IsServingErrorReported, none}
 use Rattle.cert_tool.proofs.ServingLaws.{ended, one_more}
 use Rattle.cert_tool.proofs.serving.serve.Goals as goal
 
@@ -59,8 +59,8 @@ returns-in-Err g c =
         inr (
           c.in-Err.error,
           c.in-Err.ensures.unanswered,
-          subst (λ before. IsUnservedTold (sink g.E.Output.gives g.E.Output.failures before c.tell_unserved.new.err) c.in-Err.error c.tell_unserved.result) c.requests.invariant.untold
-              c.tell_unserved.ensures,
+          subst (λ before. IsServingErrorReported (sink g.E.Output.gives g.E.Output.failures before c.report_serving_error.new.err) c.in-Err.error c.report_serving_error.result) c.requests.invariant.untold
+              c.report_serving_error.ensures,
         ),
       );
     }
@@ -81,8 +81,8 @@ returns g c =
         inr (
           errors.OutOfMemory,
           inl (([], g.met.I.Input.takes_nothing c.requests.input, refl), refl),
-          subst (λ before. IsUnservedTold (sink g.E.Output.gives g.E.Output.failures before c.tell_unserved-2.new.err) errors.OutOfMemory c.tell_unserved-2.result) c.requests.invariant.untold
-              c.tell_unserved-2.ensures,
+          subst (λ before. IsServingErrorReported (sink g.E.Output.gives g.E.Output.failures before c.report_serving_error-2.new.err) errors.OutOfMemory c.report_serving_error-2.result) c.requests.invariant.untold
+              c.report_serving_error-2.ensures,
         ),
       );
     }

@@ -1,4 +1,4 @@
--- Replies to the frames that were read went out, in turn, and nothing was told.
+-- The answers to the frames that were read were written in order, and nothing was reported.
 use Rattle.std.proofs.Common.{◌≡◌}
 use Rattle.cert_tool.proofs.ServingLaws.{SoFar}
 use Rattle.cert_tool.proofs.serving.serve.Given as goal

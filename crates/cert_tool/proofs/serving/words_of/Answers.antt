@@ -1,4 +1,4 @@
--- The lines that the calls give are those of the text.
+-- The lines that the calls return are those of the text.
 use Rattle.std.proofs.Common.{lit<}
 use Rattle.std.proofs.lemmas.Iterator.Consumers.{map_from_collect}
 use Rattle.std.proofs.lemmas.Iterator.Splits.{YieldsList-from_str_split}

@@ -4,7 +4,7 @@ use Rattle.cert_tool_explain.specs.CertCertificates.Certificates.{PlainCertifica
 use Rattle.cert_tool.specs.Splitting.{comma_before, json_at, json_places_below}
 use Rattle.cert_tool.proofs.splitting.json_of.Goals as goal
 
--- one object more
+-- One more object is appended.
 json_more : (cs : List PlainCertificate) (place : ℕ) (before after comma object : List ℕ) → before ≡ json_places_below cs place → comma ≡ comma_before place → object ≡ json_at cs place
     → after ≡ before ++ (comma ++ object) → after ≡ json_places_below cs (place + 1)
 json_more cs place before after comma object so_far first one e =

@@ -1,4 +1,4 @@
--- the objects of the places so far
+-- The text has the objects of the certificates before this index.
 use Rattle.std.proofs.Common.{◌≡◌, string_bytes}
 use Rattle.cert_tool.specs.Splitting.{json_places_below}
 use Rattle.cert_tool.proofs.splitting.json_of.Given as goal

@@ -1,4 +1,4 @@
--- the lines of the places so far
+-- The text has the lines of the certificates before this index.
 use Rattle.std.proofs.Common.{◌≡◌, string_bytes}
 use Rattle.cert_tool.specs.Splitting.{places_below}
 use Rattle.cert_tool.proofs.splitting.list_of.Given as goal

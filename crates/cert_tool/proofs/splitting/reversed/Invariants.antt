@@ -1,4 +1,4 @@
--- the bytes of the certificates from here on, the last one first
+-- The bytes are those of the certificates from this index on, the last one first.
 use Rattle.std.proofs.Common.{◌≡◌, ◌≤◌, length, drop}
 use Rattle.cert_tool.specs.Splitting.{reversed}
 use Rattle.cert_tool.proofs.splitting.reversed.Given as goal

@@ -2,7 +2,7 @@
 use Rattle.std.proofs.Common.{rules, refl, sym}
 use Rattle.cert_tool.proofs.tasks.task_of.Goals as goal
 
--- part by part
+-- The clause is proved part by part.
 pub returns-clause-read : goal.returns-clause-read
 returns-clause-read c = (
   c.requires.kept,
@@ -16,6 +16,11 @@ returns-clause-read c = (
   search rules,
   c.is_given.ensures,
   c.is_given-2.ensures,
-  sym c.if-is_octets_in_json.ensures,
+  c.is_given-3.ensures,
+  c.is_given-5.ensures,
+  search rules,
+  search rules,
+  c.is_given-4.ensures,
+  sym c.if-is_bytes_in_json.ensures,
   sym c.if-shares_input.ensures,
 )

@@ -1,6 +1,0 @@
--- The loop invariants of `given::read_on`.
-use Rattle.std.proofs.Common.{length}
-use Rattle.cert_tool.proofs.given.+read_on.Given as goal
-
-abbrev pub decreases-read_on : goal.decreases-read_on
-decreases-read_on l = length l.words.now

@@ -1,0 +1,311 @@
+//! Parses the arguments into options, their values and the other words.
+ghost use Rattle.std.specs.Prelude.{◌≡◌, map, option_map, Ok};
+ghost use Rattle.std.specs.List.{after_first, before_first};
+ghost use Rattle.cert_tool.specs.ParsedArguments.{key_of, value_of, with_value, with_word, is_option};
+ghost use Rattle.cert_tool.specs.ParsedArguments.{takes_no_value, valued_key, is_equals, with_pair, step};
+ghost use Rattle.cert_tool.specs.ParsedArguments.{parse_arguments, arguments_plain, given_read, ended_by};
+ghost use Rattle.cert_tool.specs.ParsedArguments.{no_arguments, read_on};
+
+/// An option.
+#[derive(Clone, Copy)]
+pub enum Key {
+    /// `--anchors`, a file.
+    Anchors,
+    /// `--answers`, a file.
+    Answers,
+    /// `--at`, the validation time.
+    At,
+    /// `--purpose`, the key purpose of the end entity.
+    Purpose,
+    /// `--limit`, the maximum number of bytes of a certificate.
+    Limit,
+    /// `--place`, the index of one certificate.
+    Place,
+    /// `--json`: prints JSON. It has no value.
+    Json,
+    /// `--digests`: prints digests too. It has no value.
+    Digests,
+    /// `--leaf-first`: the end-entity certificate is the first one in the PEM file. It has no
+    /// value.
+    LeafFirst,
+    /// `--strict`: a trusted chain must also meet what the rules of path validation don't check. It
+    /// has no value.
+    Strict,
+    /// `--host`: the end-entity certificate must have this host name or address.
+    Host,
+    /// `--warn-days`: reports a certificate that expires within this number of days.
+    WarnDays,
+    /// `--fail-on-remark`: the exit status is 1 if there is a remark. It has no value.
+    FailOnRemark,
+}
+
+/// An error in one argument.
+#[derive(Clone, Copy)]
+pub enum ArgumentError<'a> {
+    /// The option is unknown, or a value is attached to an option that takes none.
+    Unknown(&'a str),
+    /// The option is given twice.
+    Twice(Key),
+    /// The option is the last argument, and its value is missing.
+    NoValue(Key),
+    /// Three arguments before this one are neither options nor values.
+    Surplus(&'a str),
+}
+
+// The parsed arguments: the first three that are neither options nor values, the value of each
+// option, and the option whose value comes next. The value of an option that takes none is the
+// option itself.
+#[derive(Clone, Copy)]
+pub(crate) struct ParsedArguments<'a> {
+    pub(crate) first: Option<&'a str>,
+    pub(crate) second: Option<&'a str>,
+    pub(crate) third: Option<&'a str>,
+    pub(crate) anchors: Option<&'a str>,
+    pub(crate) answers: Option<&'a str>,
+    pub(crate) at: Option<&'a str>,
+    pub(crate) purpose: Option<&'a str>,
+    pub(crate) limit: Option<&'a str>,
+    pub(crate) place: Option<&'a str>,
+    pub(crate) json: Option<&'a str>,
+    pub(crate) digests: Option<&'a str>,
+    pub(crate) leaf_first: Option<&'a str>,
+    pub(crate) strict: Option<&'a str>,
+    pub(crate) host: Option<&'a str>,
+    pub(crate) warn_days: Option<&'a str>,
+    pub(crate) fail_on_remark: Option<&'a str>,
+    awaited: Option<Key>,
+}
+
+// Returns the option with this name.
+fn key_of(word: &str) -> Option<Key>
+    ensures { result ≡ key_of word.now }
+{
+    match word {
+        "--anchors" => Some(Key::Anchors),
+        "--answers" => Some(Key::Answers),
+        "--at" => Some(Key::At),
+        "--purpose" => Some(Key::Purpose),
+        "--limit" => Some(Key::Limit),
+        "--place" => Some(Key::Place),
+        "--json" => Some(Key::Json),
+        "--digests" => Some(Key::Digests),
+        "--leaf-first" => Some(Key::LeafFirst),
+        "--strict" => Some(Key::Strict),
+        "--host" => Some(Key::Host),
+        "--warn-days" => Some(Key::WarnDays),
+        "--fail-on-remark" => Some(Key::FailOnRemark),
+        _ => None,
+    }
+}
+
+// Returns whether an option takes no value.
+fn takes_no_value(key: Key) -> bool
+    ensures { result ≡ takes_no_value key }
+{
+    matches!(
+        key,
+        Key::Json | Key::Digests | Key::LeafFirst | Key::Strict | Key::FailOnRemark
+    )
+}
+
+// Returns the option with this name, if it takes a value.
+#[tactic(auto, unfolding(crate::specs::ParsedArguments::valued_key))]
+pub(crate) fn valued_key(name: &str) -> Option<Key>
+    ensures { result ≡ valued_key name.now }
+{
+    let Some(key) = key_of(name) else {
+        return None;
+    };
+    if takes_no_value(key) {
+        return None;
+    }
+    Some(key)
+}
+
+// Splits an argument at its first `=`. Without one, the second part is empty.
+fn parts_of(word: &str) -> (&str, &str)
+    ensures name { result.0.now ≡ before_first is_equals word.now }
+    ensures value { result.1.now ≡ after_first is_equals word.now }
+{
+    match word.split_once('=') {
+        Some((name, value)) => (name, value),
+        None => (word, ""),
+    }
+}
+
+// Returns whether an argument begins with two dashes.
+pub(crate) fn is_option(word: &str) -> bool
+    ensures { result ≡ is_option word.now }
+{
+    word.starts_with("--")
+}
+
+// Returns the result of parsing no arguments.
+fn no_arguments<'a>() -> ParsedArguments<'a>
+    ensures { arguments_plain result ≡ no_arguments }
+{
+    ParsedArguments {
+        first: None,
+        second: None,
+        third: None,
+        anchors: None,
+        answers: None,
+        at: None,
+        purpose: None,
+        limit: None,
+        place: None,
+        json: None,
+        digests: None,
+        leaf_first: None,
+        strict: None,
+        host: None,
+        warn_days: None,
+        fail_on_remark: None,
+        awaited: None,
+    }
+}
+
+impl<'a> ParsedArguments<'a> {
+    // Returns the value of an option, if one is given.
+    pub(crate) fn value_of(&self, key: Key) -> Option<&'a str>
+        ensures { option_map (λ text. text.now) result ≡ value_of key (arguments_plain self.now) }
+    {
+        match key {
+            Key::Anchors => self.anchors,
+            Key::Answers => self.answers,
+            Key::At => self.at,
+            Key::Purpose => self.purpose,
+            Key::Limit => self.limit,
+            Key::Place => self.place,
+            Key::Json => self.json,
+            Key::Digests => self.digests,
+            Key::LeafFirst => self.leaf_first,
+            Key::Strict => self.strict,
+            Key::Host => self.host,
+            Key::WarnDays => self.warn_days,
+            Key::FailOnRemark => self.fail_on_remark,
+        }
+    }
+
+    // Returns the arguments with this value of an option, and without an awaited option.
+    fn with_value(&self, key: Key, text: &'a str) -> ParsedArguments<'a>
+        ensures { arguments_plain result ≡ with_value key text.now (arguments_plain self.now) }
+    {
+        let mut given = *self;
+        given.awaited = None;
+        let text = Some(text);
+        match key {
+            Key::Anchors => given.anchors = text,
+            Key::Answers => given.answers = text,
+            Key::At => given.at = text,
+            Key::Purpose => given.purpose = text,
+            Key::Limit => given.limit = text,
+            Key::Place => given.place = text,
+            Key::Json => given.json = text,
+            Key::Digests => given.digests = text,
+            Key::LeafFirst => given.leaf_first = text,
+            Key::Strict => given.strict = text,
+            Key::Host => given.host = text,
+            Key::WarnDays => given.warn_days = text,
+            Key::FailOnRemark => given.fail_on_remark = text,
+        }
+        given
+    }
+
+    // Returns the arguments with one more word, which is neither an option nor a value.
+    fn with_word(&self, word: &'a str) -> Result<ParsedArguments<'a>, ArgumentError<'a>>
+        ensures { given_read result ≡ with_word (arguments_plain self.now).first
+            (arguments_plain self.now).second (arguments_plain self.now).third word.now
+            (arguments_plain self.now) }
+    {
+        let mut given = *self;
+        if self.first.is_none() {
+            given.first = Some(word);
+        } else if self.second.is_none() {
+            given.second = Some(word);
+        } else if self.third.is_none() {
+            given.third = Some(word);
+        } else {
+            return Err(ArgumentError::Surplus(word));
+        }
+        Ok(given)
+    }
+
+    // Returns the arguments with an option that has its value after `=`. Any other text is an
+    // unknown option.
+    fn with_pair(&self, word: &'a str) -> Result<ParsedArguments<'a>, ArgumentError<'a>>
+        ensures { given_read result ≡ with_pair (valued_key (before_first is_equals word.now))
+            word.now (arguments_plain self.now) }
+    {
+        let (name, value) = parts_of(word);
+        if let Some(key) = valued_key(name) {
+            if self.value_of(key).is_some() {
+                return Err(ArgumentError::Twice(key));
+            }
+            return Ok(self.with_value(key, value));
+        }
+        if is_option(word) {
+            return Err(ArgumentError::Unknown(word));
+        }
+        self.with_word(word)
+    }
+
+    // Parses one more argument.
+    fn step(&self, word: &'a str) -> Result<ParsedArguments<'a>, ArgumentError<'a>>
+        ensures { given_read result ≡ step (arguments_plain self.now) word.now }
+    {
+        if let Some(key) = self.awaited {
+            return Ok(self.with_value(key, word));
+        }
+        if let Some(key) = key_of(word) {
+            if self.value_of(key).is_some() {
+                return Err(ArgumentError::Twice(key));
+            }
+            if takes_no_value(key) {
+                return Ok(self.with_value(key, word));
+            }
+            return Ok(ParsedArguments {
+                awaited: Some(key),
+                ..*self
+            });
+        }
+        self.with_pair(word)
+    }
+
+    // Returns the arguments, or the error for an option whose value is missing at the end.
+    fn ended(&self) -> Result<ParsedArguments<'a>, ArgumentError<'a>>
+        ensures { given_read result ≡ ended_by self.now.awaited (arguments_plain self.now) }
+    {
+        match self.awaited {
+            Some(key) => Err(ArgumentError::NoValue(key)),
+            None => Ok(*self),
+        }
+    }
+}
+
+// Parses more arguments.
+fn read_on<'a>(
+    given: &ParsedArguments<'a>,
+    words: &[&'a str],
+) -> Result<ParsedArguments<'a>, ArgumentError<'a>>
+    ensures read { given_read result
+        ≡ read_on (Ok (arguments_plain given.now)) (map (λ word. word.now) words.now) }
+{
+    let [word, rest @ ..] = words else {
+        return given.ended();
+    };
+    match given.step(word) {
+        Ok(next) => read_on(&next, rest),
+        Err(fault) => Err(fault),
+    }
+}
+
+// Parses the arguments.
+#[tactic(auto, unfolding(crate::specs::ParsedArguments::parse_arguments))]
+pub(crate) fn parse_arguments<'a>(
+    words: &[&'a str],
+) -> Result<ParsedArguments<'a>, ArgumentError<'a>>
+    ensures read { given_read result ≡ parse_arguments (map (λ word. word.now) words.now) }
+{
+    read_on(&no_arguments(), words)
+}

@@ -1,0 +1,401 @@
+//! The fields of certificates, CRLs, CSRs, trust anchors and contents of extensions, with the names
+//! that their standards give them (RFC 5280 4.1, 4.2, 5.1, 5.2, RFC 2986 4, RFC 5914 2).
+//!
+//! The tag of a field, whether it is optional, and what is inside it are those of the shape that
+//! the decoder uses. The contract of `parts_of` says so.
+
+ghost use Rattle.std.specs.Prelude.{◌≡◌, map};
+ghost use Rattle.cert_tool_describe.specs.NodeParts.{inside_of, is_many, names_of, part_plain};
+ghost use Rattle.cert_tool_describe.specs.NodeParts.{parts_in};
+
+/// The kind of a value, which determines the fields inside it; `Leaf` if it has no fields with
+/// names. An explicit tag has one field, and a CHOICE has its alternatives.
+#[derive(Clone, Copy)]
+pub enum Node {
+    Certificate,
+    TbsCertificate,
+    Version,
+    Algorithm,
+    Name,
+    RelativeName,
+    TypeAndValue,
+    Validity,
+    Time,
+    PublicKey,
+    TaggedExtensions,
+    Extensions,
+    Extension,
+    List,
+    TbsCertList,
+    RevokedCertificates,
+    RevokedCertificate,
+    Request,
+    RequestInfo,
+    Attributes,
+    Attribute,
+    AttributeValues,
+    Anchor,
+    TaggedTbsCertificate,
+    TaggedAnchorInfo,
+    AnchorInfo,
+    PathControls,
+    GeneralNames,
+    GeneralName,
+    OtherName,
+    TaggedValue,
+    TaggedName,
+    PartyName,
+    TaggedString,
+    DirectoryString,
+    AuthorityKeyIdentifier,
+    NameConstraints,
+    Subtrees,
+    Subtree,
+    Points,
+    Point,
+    TaggedPointName,
+    PointName,
+    IssuingPoint,
+    Accesses,
+    Access,
+    BasicConstraints,
+    PolicyConstraints,
+    Mappings,
+    Mapping,
+    Policies,
+    Policy,
+    Qualifiers,
+    Qualifier,
+    UsagePeriod,
+    Purposes,
+    Features,
+    DirectoryAttributes,
+    Leaf,
+}
+
+/// A field: the first byte of its tag, or `None` if it may have any tag or is a CHOICE; whether it
+/// is optional; its name; and what is inside it.
+pub type Part = (Option<u8>, bool, &'static str, Node);
+
+const CERTIFICATE: [Part; 3] = [
+    (Some(0x30), false, "tbsCertificate", Node::TbsCertificate),
+    (Some(0x30), false, "signatureAlgorithm", Node::Algorithm),
+    (Some(0x03), false, "signatureValue", Node::Leaf),
+];
+
+const TBS_CERTIFICATE: [Part; 10] = [
+    (Some(0xa0), true, "version", Node::Version),
+    (Some(0x02), false, "serialNumber", Node::Leaf),
+    (Some(0x30), false, "signature", Node::Algorithm),
+    (Some(0x30), false, "issuer", Node::Name),
+    (Some(0x30), false, "validity", Node::Validity),
+    (Some(0x30), false, "subject", Node::Name),
+    (Some(0x30), false, "subjectPublicKeyInfo", Node::PublicKey),
+    (Some(0x81), true, "issuerUniqueID", Node::Leaf),
+    (Some(0x82), true, "subjectUniqueID", Node::Leaf),
+    (Some(0xa3), true, "extensions", Node::TaggedExtensions),
+];
+
+const ALGORITHM: [Part; 2] = [
+    (Some(0x06), false, "algorithm", Node::Leaf),
+    (None, true, "parameters", Node::Leaf),
+];
+
+const TYPE_AND_VALUE: [Part; 2] = [
+    (Some(0x06), false, "type", Node::Leaf),
+    (None, false, "value", Node::Leaf),
+];
+
+const VALIDITY: [Part; 2] = [
+    (None, false, "notBefore", Node::Time),
+    (None, false, "notAfter", Node::Time),
+];
+
+const TIME: [Part; 2] = [
+    (Some(0x17), false, "", Node::Leaf),
+    (Some(0x18), false, "", Node::Leaf),
+];
+
+const PUBLIC_KEY: [Part; 2] = [
+    (Some(0x30), false, "algorithm", Node::Algorithm),
+    (Some(0x03), false, "subjectPublicKey", Node::Leaf),
+];
+
+const EXTENSION: [Part; 3] = [
+    (Some(0x06), false, "extnID", Node::Leaf),
+    (Some(0x01), true, "critical", Node::Leaf),
+    (Some(0x04), false, "extnValue", Node::Leaf),
+];
+
+const LIST: [Part; 3] = [
+    (Some(0x30), false, "tbsCertList", Node::TbsCertList),
+    (Some(0x30), false, "signatureAlgorithm", Node::Algorithm),
+    (Some(0x03), false, "signatureValue", Node::Leaf),
+];
+
+const TBS_CERT_LIST: [Part; 7] = [
+    (Some(0x02), false, "version", Node::Leaf),
+    (Some(0x30), false, "signature", Node::Algorithm),
+    (Some(0x30), false, "issuer", Node::Name),
+    (None, false, "thisUpdate", Node::Time),
+    (None, true, "nextUpdate", Node::Time),
+    (
+        Some(0x30),
+        true,
+        "revokedCertificates",
+        Node::RevokedCertificates,
+    ),
+    (Some(0xa0), true, "crlExtensions", Node::TaggedExtensions),
+];
+
+const REVOKED_CERTIFICATE: [Part; 3] = [
+    (Some(0x02), false, "userCertificate", Node::Leaf),
+    (None, false, "revocationDate", Node::Time),
+    (Some(0x30), true, "crlEntryExtensions", Node::Extensions),
+];
+
+const REQUEST: [Part; 3] = [
+    (
+        Some(0x30),
+        false,
+        "certificationRequestInfo",
+        Node::RequestInfo,
+    ),
+    (Some(0x30), false, "signatureAlgorithm", Node::Algorithm),
+    (Some(0x03), false, "signature", Node::Leaf),
+];
+
+const REQUEST_INFO: [Part; 4] = [
+    (Some(0x02), false, "version", Node::Leaf),
+    (Some(0x30), false, "subject", Node::Name),
+    (Some(0x30), false, "subjectPKInfo", Node::PublicKey),
+    (Some(0xa0), false, "attributes", Node::Attributes),
+];
+
+const ATTRIBUTE: [Part; 2] = [
+    (Some(0x06), false, "type", Node::Leaf),
+    (Some(0x31), false, "values", Node::AttributeValues),
+];
+
+const ANCHOR: [Part; 3] = [
+    (Some(0x30), false, "certificate", Node::Certificate),
+    (Some(0xa1), false, "tbsCert", Node::TaggedTbsCertificate),
+    (Some(0xa2), false, "taInfo", Node::TaggedAnchorInfo),
+];
+
+const ANCHOR_INFO: [Part; 7] = [
+    (Some(0x02), true, "version", Node::Leaf),
+    (Some(0x30), false, "pubKey", Node::PublicKey),
+    (Some(0x04), false, "keyId", Node::Leaf),
+    (Some(0x0c), true, "taTitle", Node::Leaf),
+    (Some(0x30), true, "certPath", Node::PathControls),
+    (Some(0xa1), true, "exts", Node::TaggedExtensions),
+    (Some(0x82), true, "taTitleLangTag", Node::Leaf),
+];
+
+const PATH_CONTROLS: [Part; 6] = [
+    (Some(0x30), false, "taName", Node::Name),
+    (Some(0xa0), true, "certificate", Node::Certificate),
+    (Some(0xa1), true, "policySet", Node::Policies),
+    (Some(0x82), true, "policyFlags", Node::Leaf),
+    (Some(0xa3), true, "nameConstr", Node::NameConstraints),
+    (Some(0x84), true, "pathLenConstraint", Node::Leaf),
+];
+
+const GENERAL_NAME: [Part; 8] = [
+    (Some(0xa0), false, "otherName", Node::OtherName),
+    (Some(0x81), false, "rfc822Name", Node::Leaf),
+    (Some(0x82), false, "dNSName", Node::Leaf),
+    (Some(0xa4), false, "directoryName", Node::TaggedName),
+    (Some(0xa5), false, "ediPartyName", Node::PartyName),
+    (Some(0x86), false, "uniformResourceIdentifier", Node::Leaf),
+    (Some(0x87), false, "iPAddress", Node::Leaf),
+    (Some(0x88), false, "registeredID", Node::Leaf),
+];
+
+const OTHER_NAME: [Part; 2] = [
+    (Some(0x06), false, "type-id", Node::Leaf),
+    (Some(0xa0), false, "value", Node::TaggedValue),
+];
+
+const PARTY_NAME: [Part; 2] = [
+    (Some(0xa0), true, "nameAssigner", Node::TaggedString),
+    (Some(0xa1), false, "partyName", Node::TaggedString),
+];
+
+const DIRECTORY_STRING: [Part; 4] = [
+    (Some(0x13), false, "", Node::Leaf),
+    (Some(0x14), false, "", Node::Leaf),
+    (Some(0x0c), false, "", Node::Leaf),
+    (Some(0x1e), false, "", Node::Leaf),
+];
+
+const AUTHORITY_KEY_IDENTIFIER: [Part; 3] = [
+    (Some(0x80), true, "keyIdentifier", Node::Leaf),
+    (Some(0xa1), true, "authorityCertIssuer", Node::GeneralNames),
+    (Some(0x82), true, "authorityCertSerialNumber", Node::Leaf),
+];
+
+const NAME_CONSTRAINTS: [Part; 2] = [
+    (Some(0xa0), true, "permittedSubtrees", Node::Subtrees),
+    (Some(0xa1), true, "excludedSubtrees", Node::Subtrees),
+];
+
+const SUBTREE: [Part; 3] = [
+    (None, false, "base", Node::GeneralName),
+    (Some(0x80), true, "minimum", Node::Leaf),
+    (Some(0x81), true, "maximum", Node::Leaf),
+];
+
+const POINT: [Part; 3] = [
+    (Some(0xa0), true, "distributionPoint", Node::TaggedPointName),
+    (Some(0x81), true, "reasons", Node::Leaf),
+    (Some(0xa2), true, "cRLIssuer", Node::GeneralNames),
+];
+
+const POINT_NAME: [Part; 2] = [
+    (Some(0xa0), false, "fullName", Node::GeneralNames),
+    (
+        Some(0xa1),
+        false,
+        "nameRelativeToCRLIssuer",
+        Node::RelativeName,
+    ),
+];
+
+const ISSUING_POINT: [Part; 6] = [
+    (Some(0xa0), true, "distributionPoint", Node::TaggedPointName),
+    (Some(0x81), true, "onlyContainsUserCerts", Node::Leaf),
+    (Some(0x82), true, "onlyContainsCACerts", Node::Leaf),
+    (Some(0x83), true, "onlySomeReasons", Node::Leaf),
+    (Some(0x84), true, "indirectCRL", Node::Leaf),
+    (Some(0x85), true, "onlyContainsAttributeCerts", Node::Leaf),
+];
+
+const ACCESS: [Part; 2] = [
+    (Some(0x06), false, "accessMethod", Node::Leaf),
+    (None, false, "accessLocation", Node::GeneralName),
+];
+
+const BASIC_CONSTRAINTS: [Part; 2] = [
+    (Some(0x01), true, "cA", Node::Leaf),
+    (Some(0x02), true, "pathLenConstraint", Node::Leaf),
+];
+
+const POLICY_CONSTRAINTS: [Part; 2] = [
+    (Some(0x80), true, "requireExplicitPolicy", Node::Leaf),
+    (Some(0x81), true, "inhibitPolicyMapping", Node::Leaf),
+];
+
+const MAPPING: [Part; 2] = [
+    (Some(0x06), false, "issuerDomainPolicy", Node::Leaf),
+    (Some(0x06), false, "subjectDomainPolicy", Node::Leaf),
+];
+
+const POLICY: [Part; 2] = [
+    (Some(0x06), false, "policyIdentifier", Node::Leaf),
+    (Some(0x30), true, "policyQualifiers", Node::Qualifiers),
+];
+
+const QUALIFIER: [Part; 2] = [
+    (Some(0x06), false, "policyQualifierId", Node::Leaf),
+    (None, true, "qualifier", Node::Leaf),
+];
+
+const USAGE_PERIOD: [Part; 2] = [
+    (Some(0x80), true, "notBefore", Node::Leaf),
+    (Some(0x81), true, "notAfter", Node::Leaf),
+];
+
+// Returns the fields inside a value, in order; for a list, the field that each member is.
+pub fn parts_of(node: Node) -> &'static [Part]
+    ensures names { map (λ p. p.2.now) result.now ≡ names_of node }
+    ensures parts { map part_plain result.now ≡ parts_in (inside_of node) }
+{
+    match node {
+        Node::Certificate => &CERTIFICATE,
+        Node::TbsCertificate => &TBS_CERTIFICATE,
+        Node::Version => &[(Some(0x02), false, "", Node::Leaf)],
+        Node::Algorithm => &ALGORITHM,
+        Node::Name => &[(Some(0x31), false, "an RDN", Node::RelativeName)],
+        Node::RelativeName => &[(Some(0x30), false, "an attribute", Node::TypeAndValue)],
+        Node::TypeAndValue => &TYPE_AND_VALUE,
+        Node::Validity => &VALIDITY,
+        Node::Time => &TIME,
+        Node::PublicKey => &PUBLIC_KEY,
+        Node::TaggedExtensions => &[(Some(0x30), false, "", Node::Extensions)],
+        Node::Extensions => &[(Some(0x30), false, "an extension", Node::Extension)],
+        Node::Extension => &EXTENSION,
+        Node::List => &LIST,
+        Node::TbsCertList => &TBS_CERT_LIST,
+        Node::RevokedCertificates => &[(Some(0x30), false, "an entry", Node::RevokedCertificate)],
+        Node::RevokedCertificate => &REVOKED_CERTIFICATE,
+        Node::Request => &REQUEST,
+        Node::RequestInfo => &REQUEST_INFO,
+        Node::Attributes => &[(Some(0x30), false, "an attribute", Node::Attribute)],
+        Node::Attribute => &ATTRIBUTE,
+        Node::AttributeValues => &[(None, false, "a value", Node::Leaf)],
+        Node::Anchor => &ANCHOR,
+        Node::TaggedTbsCertificate => &[(Some(0x30), false, "", Node::TbsCertificate)],
+        Node::TaggedAnchorInfo => &[(Some(0x30), false, "", Node::AnchorInfo)],
+        Node::AnchorInfo => &ANCHOR_INFO,
+        Node::PathControls => &PATH_CONTROLS,
+        Node::GeneralNames => &[(None, false, "a name", Node::GeneralName)],
+        Node::GeneralName => &GENERAL_NAME,
+        Node::OtherName => &OTHER_NAME,
+        Node::TaggedValue => &[(None, false, "", Node::Leaf)],
+        Node::TaggedName => &[(Some(0x30), false, "", Node::Name)],
+        Node::PartyName => &PARTY_NAME,
+        Node::TaggedString => &[(None, false, "", Node::DirectoryString)],
+        Node::DirectoryString => &DIRECTORY_STRING,
+        Node::AuthorityKeyIdentifier => &AUTHORITY_KEY_IDENTIFIER,
+        Node::NameConstraints => &NAME_CONSTRAINTS,
+        Node::Subtrees => &[(Some(0x30), false, "a subtree", Node::Subtree)],
+        Node::Subtree => &SUBTREE,
+        Node::Points => &[(Some(0x30), false, "a point", Node::Point)],
+        Node::Point => &POINT,
+        Node::TaggedPointName => &[(None, false, "", Node::PointName)],
+        Node::PointName => &POINT_NAME,
+        Node::IssuingPoint => &ISSUING_POINT,
+        Node::Accesses => &[(Some(0x30), false, "an access description", Node::Access)],
+        Node::Access => &ACCESS,
+        Node::BasicConstraints => &BASIC_CONSTRAINTS,
+        Node::PolicyConstraints => &POLICY_CONSTRAINTS,
+        Node::Mappings => &[(Some(0x30), false, "a mapping", Node::Mapping)],
+        Node::Mapping => &MAPPING,
+        Node::Policies => &[(Some(0x30), false, "a policy", Node::Policy)],
+        Node::Policy => &POLICY,
+        Node::Qualifiers => &[(Some(0x30), false, "a qualifier", Node::Qualifier)],
+        Node::Qualifier => &QUALIFIER,
+        Node::UsagePeriod => &USAGE_PERIOD,
+        Node::Purposes => &[(Some(0x06), false, "a key purpose", Node::Leaf)],
+        Node::Features => &[(Some(0x02), false, "a feature", Node::Leaf)],
+        Node::DirectoryAttributes => &[(Some(0x30), false, "an attribute", Node::Attribute)],
+        Node::Leaf => &[],
+    }
+}
+
+// Returns whether the value is a list.
+pub fn is_list(node: Node) -> bool
+    ensures { result ≡ is_many (inside_of node) }
+{
+    match node {
+        Node::Name
+        | Node::RelativeName
+        | Node::Extensions
+        | Node::RevokedCertificates
+        | Node::Attributes
+        | Node::AttributeValues
+        | Node::GeneralNames
+        | Node::Subtrees
+        | Node::Points
+        | Node::Accesses
+        | Node::Mappings
+        | Node::Policies
+        | Node::Qualifiers
+        | Node::Purposes
+        | Node::Features
+        | Node::DirectoryAttributes => true,
+        _ => false,
+    }
+}

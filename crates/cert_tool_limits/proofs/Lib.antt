@@ -1,0 +1,6 @@
+pub mod IdentifierLaws
+pub mod ListLaws
+pub mod EntryLaws
+pub mod AnchorLaws
+pub mod DemandLaws
+pub mod UnjudgedLaws

@@ -1,0 +1,10 @@
+mod Blanks
+mod MemoryRead
+mod AfterFirstByte
+mod ByText
+mod LinesRead
+mod GrammarLaws
+mod Joined
+mod AnyLine
+mod TextOctets
+mod DerReversed
