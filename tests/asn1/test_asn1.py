@@ -26,16 +26,18 @@ from asn1_tool.command import main
 
 WRITTEN = HERE / "written.txt"
 MODULES = HERE / "modules"
-CMS = ["--loose", "--read", "AttributeCertificateV1=SequenceOwned",
-       "--read", "AttributeCertificateV2=SequenceOwned"]
-for name in ("ContentInfo", "SignedData", "EnvelopedData", "DigestedData", "EncryptedData",
-             "AuthenticatedData", "MessageDigest", "SigningTime", "Countersignature"):
-    CMS += ["--only", name]
+CMS = ["CryptographicMessageSyntax2004", "--loose"]
+for name in ("AttributeCertificateV1", "AttributeCertificateV2", "ExtendedCertificate"):
+    CMS += ["--read", f"{name}=SequenceOwned"]
+SIGNED = ["ContentInfo", "SignedData", "DigestedData", "EncryptedData", "MessageDigest",
+          "SigningTime", "Countersignature"]
 # The crates of the modules of RFCs, with options; those that are imported come first.
 CRATES = {
     "pki_ocsp": ["OCSP-2013-88"],
     "ocsp_2008": ["OCSP-2013-08", "--read", "CRLReason=Any"],
-    "pki_cms": ["CryptographicMessageSyntax2004", *CMS],
+    "pki_cms": [*CMS, *(word for name in SIGNED for word in ("--only", name))],
+    "pki_cms_enveloped": [*CMS, "--with", "pki_cms", "--only", "EnvelopedData", "--only",
+                          "AuthenticatedData"],
     "pki_key_containers": ["AsymmetricKeyPackageModuleV1", "--loose"],
     "pbes": ["PKCS5v2-1", "--loose", "--only", "PBEParameter", "--only", "PBES2-params"],
     "pki_timestamps": ["PKIXTSP", "--loose", "--with", "pki_cms=CryptographicMessageSyntax"],

@@ -37,7 +37,8 @@ class Case:
         value = "&()" if self.is_unit else "value"
         if self.form.mode == "implicit":
             return f"ImplicitRef {{ value: {value} }}"
-        return f"Explicit {{ value: EncodeRef({value}) }}" if self.form.mode else f"EncodeRef({value})"
+        lent = f"EncodeRef({value})"
+        return f"Explicit {{ value: {lent} }}" if self.form.mode else lent
 
     def of(self, inner):
         """The case as a pattern or a value."""

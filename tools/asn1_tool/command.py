@@ -8,8 +8,8 @@ which another module imports types (--with). docs/ASN1.md says what each ASN.1 t
 
   --with FOLDER[=MODULE]  types of the crate in FOLDER can be imported, as those of MODULE where it
                           is given
-  --read NAME=TYPE        TYPE stands for NAME: Any, Int, OctetString, SequenceOwned, or another type's
-                          name
+  --read NAME=TYPE        TYPE stands for NAME: Any, Int, OctetString, SequenceOwned, or the name of
+                          another type
   --only NAME             the type NAME is written, and what it names; else all types are
   --loose                 sizes and ranges that can't be checked are no errors
   --equal-members         members of a SET OF may be equal

@@ -105,7 +105,7 @@ class Crate:
                 raise self.no_default(field)
             if value == "FALSE":
                 return Default(rust), form
-            return self.wrapper("TRUE", library.BOOL, [255]), form
+            return Default(library.OR_TRUE, "OrTrue"), form
         if item is not None:
             name, of = item
             number = {it.name: it.number for it in of.items}.get(value)
@@ -151,7 +151,7 @@ class Crate:
 
     def wrapper(self, value, rust, octets):
         """A type around `rust` that has the default `value`, coded as `octets`."""
-        base = library.machine(rust.bits).text if rust.bits else rust.text
+        base = library.machine(rust.bits).text
         name = base.capitalize() + "Default" + names.variant(value.replace("-", "minus-"))
         self.wrappers[name] = (base, value.lower(), octets)
         use = frozenset([f"crate::defaults::{name}"])

@@ -30,6 +30,11 @@ class RustType:
     # The value that it has as its default, as a module names it.
     default: str | None = None
 
+    @property
+    def crate(self):
+        """The crate that has the type."""
+        return min(self.uses).partition("::")[0]
+
 
 def plain(text, use, tag, **marks):
     return RustType(text, frozenset([use] if use else []), frozenset([tag]), **marks)
@@ -55,12 +60,16 @@ PLAIN = {
     "IA5String": plain("Ia5String", "der_types::Ia5String", "IA5String"),
     "TeletexString": plain("TeletexString", "der_types::TeletexString", "TeletexString"),
     "BMPString": plain("BmpString", "der_types::BmpString", "BMPString"),
+    "VisibleString": plain("VisibleString", "der_types_more::VisibleString", "VisibleString"),
+    "NumericString": plain("NumericString", "der_types_more::NumericString", "NumericString"),
     "GeneralString": plain("GeneralString", "der_types_more::GeneralString", "GeneralString"),
     "UTCTime": plain("UtcTime", "der_types::UtcTime", "UTCTime", is_copy=True),
     "GeneralizedTime": plain(
         "GeneralizedTime", "der_types::GeneralizedTime", "GeneralizedTime", is_copy=True
     ),
 }
+# A BOOLEAN that is TRUE where it is absent.
+OR_TRUE = plain("OrTrue", "der_types_more::OrTrue", "BOOLEAN", is_copy=True)
 # What a user may name in place of a type: --read NAME=Any.
 READ = {
     "Any": ANY, "Int": INT, "OctetString": PLAIN["OCTET STRING"],

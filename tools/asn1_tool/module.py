@@ -1,5 +1,6 @@
 """Finds what each type of a module is in Rust, or why it can't be written."""
 
+import collections
 import dataclasses
 
 from . import library, names
@@ -56,11 +57,27 @@ class Resolved:
         self.set_type = "der_types_more::AscendingSetOf" if equal_members else SET_TYPE
         self.read, self.definitions, self.instances, self.busy = read or {}, {}, {}, []
         self.components_of, self.found = {}, {}
+        self.take_known()
         for name, definition in module.types.items():
             if not definition.parameters and name not in self.definitions:
                 self.define(name, definition)
         self.check_names()
         self.cyclic = self.check_cycles()
+
+    def take_known(self):
+        """Takes from the table what another crate has of this very module."""
+        of, crates = self.module.name, collections.Counter()
+        for name, definition in list(self.module.types.items()):
+            if (of, name) in self.table.types:
+                del self.module.types[name]
+                self.module.imports[name] = of, definition.line
+                crates[self.table.types[of, name].crate] += 1
+        for crate, count in crates.items():
+            self.report.note(1, f"{count} types aren't written: they are those of {crate}")
+        for name, value in list(self.module.values.items()):
+            if (of, name) in self.table.identifiers:
+                del self.module.values[name]
+                self.module.imports[name] = of, value[2]
 
     # The tree: each structure and each type with named numbers gets a name, and parameters what
     # stands for them.

@@ -27,7 +27,8 @@ def words(name):
     found = []
     for part in re.split(r"[-_]", name):
         found += re.findall(
-            r"[A-Z]+(?=v[0-9])|v[0-9]+$|[A-Z]+(?=[A-Z][a-z])|[A-Z]?[a-z]+[0-9]*|[A-Z]+[0-9]*|[0-9]+",
+            r"[A-Z]+(?=v[0-9])|v[0-9]+$|[A-Z]+(?=[A-Z][a-z])|[A-Z]?[a-z]+[0-9]*|"
+            r"[A-Z]+[0-9]*|[0-9]+",
             part,
         )
     return found

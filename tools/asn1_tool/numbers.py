@@ -1,4 +1,4 @@
-"""The source of named numbers, and of numbers and flags that have a default."""
+"""The source of named numbers, and of numbers that have a default."""
 
 import dataclasses
 
@@ -135,13 +135,13 @@ impl DefaultNumber for {rust} {{
 
 
 def wrappers_source(found):
-    """The types around numbers and flags whose default isn't that of the library."""
-    is_number = any(base != "bool" and not is_small(octets) for base, _, octets in found.values())
+    """The types around numbers whose default isn't that of the library."""
+    is_long = any(not is_small(octets) for _, _, octets in found.values())
     uses = {"der_core::DefaultContent"}
     uses |= {f"der_core::describing::{it}" for it in ("AsField", "Described", "Ordered", "Wraps")}
     ghosts = ["ghost use Rattle.std.specs.Prelude.{◌≡◌, [], ◌∷◌, refl};"]
     parts = []
-    if is_number:
+    if is_long:
         ghosts = [
             "ghost use Rattle.std.specs.Prelude.{◌≡◌, [], ◌∷◌, bytes_eq, refl};",
             "ghost use Rattle.der_core.specs.Leaves.{integer};",
@@ -151,9 +151,7 @@ def wrappers_source(found):
         parts.append(HAS_CONTENT.replace("{tactic}", TACTIC))
     for name, (base, value, octets) in sorted(found.items()):
         shown, tactic, made = ", ".join(map(str, octets)), TACTIC, f"{name}({value})"
-        if base == "bool":
-            test = "self.0"
-        elif is_small(octets):
+        if is_small(octets):
             uses.add("der_core::making::is_small")
             test = f"is_small(&self.0, {shown})"
             made = (f"let value = {name}({value});\n"

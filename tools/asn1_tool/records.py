@@ -168,7 +168,8 @@ class Record:
         """The file of the proof that the rows are those of the record, and its text."""
         path = f"{names.module(self.name)}/{self.rust}Rows/with_rows"
         return f"proofs/{path}/Answers.antt", ANSWER.format(
-            crate=self.crate.name, path=path.replace("/", ".")
+            crate=self.crate.name, path=path.replace("/", "."),
+            call="take_lent" if self.by_hand else "lend",
         )
 
     def struct(self):
@@ -220,7 +221,7 @@ class Record:
         if self.by_hand:
             lent = (Lent(layout.nested([it.lend(of) for it in self.columns]))
                     for of in ("self", "other"))
-            body = f"        {layout.laid(Call('user.take', tuple(lent)), 8)}"
+            body = f"        {layout.laid(Call('user.take_lent', tuple(lent)), 8)}"
             self.lend_uses()
         else:
             self.uses.add("der_core::lend")
@@ -249,5 +250,5 @@ use Rattle.std.proofs.Common.{{rules}}
 use Rattle.{crate}.proofs.{path}.Goals as goal
 
 pub returns : goal.returns
-returns g c = c.lend.ensures _ _ (search rules) (search rules)
+returns g c = c.{call}.ensures _ _ (search rules) (search rules)
 """
