@@ -67,6 +67,8 @@ INSTALLED = {
     "examples/verify_pem.py": "bin/cert_tool_verify_pem",
     "docs/man/cert_desk.1": "share/man/man1/cert_desk.1",
     "docs/man/cert_tool.1": "share/man/man1/cert_tool.1",
+    "docs/man/cert_tool_answer.1": "share/man/man1/cert_tool_answer.1",
+    "docs/man/cert_tool_verify_pem.1": "share/man/man1/cert_tool_verify_pem.1",
     "docs/man/cert_tool.bash": "share/bash-completion/completions/cert_tool",
     "LICENSE-APACHE": "share/doc/wurstdrape/LICENSE-APACHE",
     "LICENSE-MIT": "share/doc/wurstdrape/LICENSE-MIT",

@@ -14,8 +14,22 @@ _cert_tool() {
         *)
             case $word in
                 -*)
-                    words="--anchors --answers --at --purpose --limit --place --json --digests"
-                    words+=" --help --version"
+                    case ${COMP_WORDS[1]} in
+                        questions) words="--anchors --leaf-first --limit" ;;
+                        verify)
+                            words="--anchors --answers --at --purpose --host --strict --warn-days"
+                            words+=" --leaf-first --limit --json"
+                            ;;
+                        explain)
+                            words="--json --fail-on-remark --limit --anchors --answers --at"
+                            words+=" --purpose --host --strict --leaf-first"
+                            ;;
+                        describe) words="--digests --json --limit" ;;
+                        split) words="--limit --place --json" ;;
+                        reverse) words="--limit" ;;
+                        *) words="--version" ;;
+                    esac
+                    words+=" --help"
                     ;;
             esac
             ;;
