@@ -41,20 +41,23 @@ import release
 PAGE = HERE / "SPEED.md"
 ROOTS = pathlib.Path("/usr/share/ca-certificates/mozilla")
 
-# The table of the page: the task, the name of its count, what it is compared with, the name of that
-# count (or a number), and the greatest ratio that is wanted, if there is one.
-ROWS = (
-    ("decode a root", "x509_cert, decoded", "mbedTLS", "mbedTLS, decoded", 0.65),
-    ("decode a root, and the extensions that rules use", "x509_cert, extensions decoded", "mbedTLS",
-     "mbedTLS, decoded", 0),
-    ("decode a root into a `Bundle`, and validate it", "bundle, decoded and validated",
-     "decoding", "x509_cert, decoded", 1.34),
-    ("encode a root", "encoded", "0.10.0", 11942, 0.75),
+# The tables of the page. Each row has a task, the name of its count, what it is compared with, the
+# name of that count (or a number), and the target, if there is one: the greatest ratio wanted.
+OTHERS = (
+    ("decode a root, with the extensions that the rules use", "x509_cert, extensions decoded",
+     "mbedTLS", "mbedTLS, decoded", 0),
+    ("decode a root, without its extensions", "x509_cert, decoded", "mbedTLS", "mbedTLS, decoded",
+     0.65),
     ("validate a chain of four", "cert_desk_checking", "mbedTLS", "mbedTLS", 0.5),
     ("decode and print a root", "cert_desk_listing", "OpenSSL", "OpenSSL", 0),
-    ("`cert_desk show` of a root", "show", "0.10.0", 52217, 0.5),
-    ("`cert_tool describe` of a root", "describe", "0.10.0", 325328, 0.5),
-    ("`cert_tool verify` of a chain of four", "verify", "`check`", "check", 1.3),
+)
+EARLIER = (
+    ("encode a root", "encoded", "version 0.10.0", 11942, 0.75),
+    ("`cert_desk show` of a root", "show", "version 0.10.0", 52217, 0.5),
+    ("`cert_tool describe` of a root", "describe", "version 0.10.0", 325328, 0.5),
+    ("decode a root into a `Bundle`, and validate it", "bundle, decoded and validated",
+     "decoding a root", "x509_cert, decoded", 1.34),
+    ("`cert_tool verify` of a chain of four", "verify", "`cert_desk check`", "check", 1.3),
 )
 
 
@@ -304,35 +307,61 @@ def page(bench):
     kit = first_line("rt", "version").partition(" ")[0]
     mbedtls = first_line("dpkg-query", "-W", "-f", "${Version}\n", "libmbedtls-dev")
     openssl = first_line("openssl", "version").split(" ")[1]
-    kept, fed, rows, parts, missed = *(bench.counts[it][0] for it in ("kept", "fed")), [], [], []
-    for task, name, beside, other, most in ROWS:
-        one, two = bench.counts[name], bench.counts.get(other) or (other, None)
-        parts.append(one[0] / two[0])
-        met = "yes" if parts[-1] <= most else "**no**" if most else ""
-        missed += [task] if "no" in met else []
-        row = task, cells(one), beside, cells(two), f"{parts[-1]:.3f}", str(most or ""), met
-        rows.append(f"| {' | '.join(row)} |")
-    less, pair = [f"{100 - 100 * it:.0f} %" for it in parts], "Instructions | Allocations"
+    kept, fed = (bench.counts[it][0] for it in ("kept", "fed"))
+    ratios, missed = {}, []
+
+    def table(rows):
+        pair = "Instructions | Allocations"
+        yield f"| Task | {pair} | Compared with | {pair} | Ratio | Target | Met |"
+        yield "|---|---|---|---|---|---|---|---|---|"
+        for task, name, beside, other, most in rows:
+            one, two = bench.counts[name], bench.counts.get(other) or (other, None)
+            ratios[name] = one[0] / two[0]
+            met = "yes" if ratios[name] <= most else "**no**" if most else ""
+            missed.extend([task] if "no" in met else [])
+            row = task, cells(one), beside, cells(two), f"{ratios[name]:.3f}", str(most or ""), met
+            yield f"| {' | '.join(row)} |"
+
+    others, earlier = ("\n".join(table(rows)) for rows in (OTHERS, EARLIER))
+    whole, alone, chain, shown = (f"{100 - 100 * ratios[row[1]]:.0f} %" for row in OTHERS)
     return f"""# Speed
 
-Decoding a root certificate and the extensions that the rules use takes {less[1]} fewer instructions
-than with mbedTLS. Without the extensions, which mbedTLS always decodes, it takes {less[0]} fewer.
-Validating a chain of four certificates, without signatures and digests, takes {less[4]} fewer.
-Targets that are missed: {', '.join(missed) or 'none'}.
+This page compares how many instructions Wurstdrape and other software execute for the same task. It
+has no seconds, because these depend on the machine.
 
-A figure of a root is the mean of the roots of Debian's `ca-certificates`. A ratio below 1 means
-that Wurstdrape takes fewer instructions. "0.10.0" is version 0.10.0 of Wurstdrape.
+- **Decoding** a root certificate, with the extensions that the rules use, takes {whole} fewer
+  instructions than with mbedTLS, which decodes all extensions. Without the extensions it takes
+  {alone} fewer, but then the two do different work.
+- **Validating** a chain of four certificates takes {chain} fewer instructions than with mbedTLS.
+  Neither side verifies signatures or computes digests.
+- **Printing** a root takes {shown} fewer instructions than with OpenSSL.
+- **Missed targets**: {', '.join(missed) or 'none'}.
 
-| Task | {pair} | Compared with | {pair} | Ratio | Target | Met |
-|---|---|---|---|---|---|---|---|---|
-{chr(10).join(rows)}
+A figure of a root is the mean of the roots in Debian's `ca-certificates`. A ratio is the
+instructions of Wurstdrape, divided by those on the right: below 1, Wurstdrape takes fewer. An empty
+cell wasn't measured, or has no target. [README](README.md#method) explains how the script counts,
+and what a target is.
 
-A bundle of 10,000 certificates used {fed:,} kB at most, {fed / kept:.3f} times the {kept:,} kB of
-the certificates and their bytes (target 1.06).
+## Compared with other software
 
-`bench/speed.py` measured proved builds in one run ({datetime.date.today()}, crates of {commit},
-{kit}, LLVM, mbedTLS {mbedtls}, OpenSSL {openssl}), and [printed this](speed.txt).
-[README](README.md#method) explains how it counts.
+{others}
+
+## Compared with version 0.10.0, and with itself
+
+The last two rows compare a task with a smaller task of the same version.
+
+{earlier}
+
+## Memory
+
+A bundle that has read 10,000 certificates used {fed:,} kB at most: {fed / kept:.3f} times the
+{kept:,} kB that the certificates and their bytes need (target 1.06).
+
+## How this was measured
+
+`bench/speed.py` measured proved builds in one run on {datetime.date.today()}, and printed
+[speed.txt](speed.txt). The crates were those of commit {commit}, compiled with {kit} and
+LLVM. The other software was mbedTLS {mbedtls} and OpenSSL {openssl}.
 """
 
 

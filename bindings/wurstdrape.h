@@ -1,12 +1,17 @@
 /* wurstdrape.h: decodes, prints and describes X.509 certificates (RFC 5280), CRLs and CSRs,
-   validates certificate chains, and issues them.
+   and validates and issues certificate chains.
 
-   The functions take DER, and return a status and bytes. They keep no state, so threads may call
-   them at the same time. Each function is proved to meet its contract, which is in its source
-   (crates/cert_desk_c/src, crates/cert_desk_issuing_c/src). docs/FROM_OTHERS.md says what is
-   proved, and has complete programs.
+   The functions take bytes, in DER unless their comment says otherwise. They return a status, and
+   write bytes or numbers to memory of the caller. They keep no state, so threads may call them at
+   the same time.
 
    Link with libwurstdrape; wd_signed_part, wd_issue and wd_audit are in libwurstdrape_issue.
+   docs/FROM_OTHERS.md has complete programs. Each function is proved to meet its contract, which is
+   in its source (crates/cert_desk_c/src, crates/cert_desk_issuing_c/src); docs/FROM_OTHERS.md says
+   what that means.
+
+   Wurstdrape doesn't verify signatures. To validate a chain, call wd_questions, verify the
+   signatures that it lists, and pass the lines of the valid ones to wd_verify as answers.
 
    What the caller must ensure
 
@@ -25,7 +30,8 @@
    - A status implies what its comment says. For all functions except the three that issue, the
      converse is proved, too: if what the comment says of a status is true, the function returns
      this status, or WD_MEMORY.
-   - A function that allocates may return WD_MEMORY in place of another status.
+   - WD_MEMORY: memory ran out. A function that allocates may return it in place of another status.
+     That it isn't returned without a reason is only tested.
    - All statuses but WD_ARGUMENTS and WD_MEMORY imply that the arguments are valid.
 
    What the functions write
@@ -48,11 +54,12 @@
 extern "C" {
 #endif
 
-/* The statuses. They have the numbers of the programs' exit statuses. */
+/* The statuses. 0, 1, 2 and 6 mean what the exit statuses of the programs mean; 3, 4 and 5 mean
+   more, or something else. */
 enum {
     WD_DONE = 0,      /* success; of a chain: it is trusted */
     WD_REFUSED = 1,   /* a certificate of the chain breaks a rule, or the orders are rejected */
-    WD_FAULTY = 2,    /* the input isn't the DER, or the text, of the expected type */
+    WD_FAULTY = 2,    /* the input isn't DER, or text, of the expected type */
     WD_EMPTY = 3,     /* the chain is empty, or there is no such extension or index */
     WD_ARGUMENTS = 4, /* an argument other than the input is wrong */
     WD_NO_ROOM = 5,   /* `out` is too small */
@@ -60,8 +67,8 @@ enum {
 };
 
 /* The rules for each certificate of a chain (RFC 5280 6.1), in the order in which they are checked.
-   wd_verify stores one of them in `number` if it returns WD_REFUSED. docs/CLI.md says what each
-   requires. */
+   wd_verify stores in `number` the rule that is broken if it returns WD_REFUSED. docs/CLI.md says
+   what each rule requires. */
 enum {
     WD_ALGORITHMS_DIFFER = 1,
     WD_DUPLICATE_EXTENSION = 2,
@@ -76,8 +83,8 @@ enum {
     WD_WRONG_SIGNATURE = 11
 };
 
-/* The reasons why orders are rejected. wd_audit stores one of them in `number` if it returns
-   WD_REFUSED and no rule is broken. */
+/* The reasons why orders are rejected. If wd_audit returns WD_REFUSED, it stores in `number` one of
+   these, or the rule that is broken. */
 enum {
     WD_ORDER_NO_ORDERS = 21,       /* the file has no orders */
     WD_ORDER_NAME = 22,            /* the name can't be parsed */
@@ -89,8 +96,8 @@ enum {
     WD_ORDER_TOO_LONG = 28         /* a length exceeds 2^32 - 1 */
 };
 
-/* The errors of bytes that aren't a sequence of certificates. wd_verify stores one of them in
-   `number` if it returns WD_FAULTY. */
+/* The errors of bytes that aren't a sequence of certificates. If wd_verify returns WD_FAULTY, it
+   stores in `number` the error of the first bytes that aren't a certificate. */
 enum {
     WD_CHAIN_NO_CERTIFICATE = 1,      /* the byte where a certificate should begin isn't 0x30 */
     WD_CHAIN_INDEFINITE = 2,          /* its length is indefinite */
@@ -101,7 +108,9 @@ enum {
     WD_CHAIN_TRUNCATED = 7            /* the chain ends inside a certificate */
 };
 
-/* The kinds of decoding errors, in `kind` of a wd_fault. docs/ENCODING.md says when each occurs. */
+/* The kinds of decoding errors, in `kind` of a wd_fault. docs/ENCODING.md says which bytes cause
+   which of them. ENCODING_RULES, FAILED, OID_UNKNOWN, OUT_OF_MEMORY, READER and TAG_MODE_UNKNOWN
+   aren't errors of bytes. */
 enum {
     WD_FAULT_DATE_TIME = 1,
     WD_FAULT_ENCODING_RULES = 2,
@@ -128,7 +137,7 @@ enum {
     WD_FAULT_VALUE = 23
 };
 
-/* The first error that decoding meets. */
+/* The first error that decoding meets. `kind` is proved, and `octet` is only tested. */
 typedef struct {
     uint32_t kind;  /* WD_FAULT_.. */
     uint64_t octet; /* the index of the byte at which it was found, or UINT64_MAX if unknown */
@@ -177,8 +186,8 @@ uint32_t wd_is_list(const uint8_t *octets, size_t octets_len, wd_fault *fault);
 uint32_t wd_is_request(const uint8_t *octets, size_t octets_len, wd_fault *fault);
 
 /* Writes the listing of a certificate, a CRL, or a CSR, as `cert_desk show` prints it.
-   - WD_DONE.
-   - WD_FAULTY: the bytes aren't such an encoding.
+   - WD_DONE: `out` has the listing.
+   - WD_FAULTY: the bytes aren't the encoding of a certificate, a CRL, or a CSR.
    - WD_NO_ROOM, WD_MEMORY. */
 uint32_t wd_show_certificate(const uint8_t *octets, size_t octets_len, uint8_t *out, size_t out_len,
                              size_t *size);
@@ -205,7 +214,7 @@ uint32_t wd_issuer(const uint8_t *octets, size_t octets_len, uint8_t *out, size_
                    size_t *size);
 
 /* Stores the positions of the parts of a certificate in `octets`. Nothing is copied.
-   - WD_DONE.
+   - WD_DONE: `spans` has the positions.
    - WD_FAULTY: the bytes aren't the encoding of a certificate.
    - WD_MEMORY. */
 uint32_t wd_parts(const uint8_t *octets, size_t octets_len, wd_spans *spans);
@@ -215,9 +224,9 @@ uint32_t wd_dates(const uint8_t *octets, size_t octets_len, wd_validity *dates);
 
 /* Finds the first extension of a certificate with an OID. Stores the position of its content in
    `octets`, and whether it is critical. `identifier` is the content bytes of the OID, which
-   wd_identifier_of_text returns. A certificate may have two extensions with the same OID, which
-   RFC 5280 4.2 forbids and wd_verify rejects; this function doesn't report the second one.
-   - WD_DONE.
+   wd_identifier_of_text writes. RFC 5280 4.2 forbids two extensions with the same OID, and
+   wd_verify rejects them; this function doesn't report the second one.
+   - WD_DONE: `span` and `critical` have the result.
    - WD_FAULTY: the bytes aren't the encoding of a certificate.
    - WD_EMPTY: the certificate has no such extension.
    - WD_ARGUMENTS: `identifier` isn't an OID of at most 39 bytes.
@@ -225,8 +234,9 @@ uint32_t wd_dates(const uint8_t *octets, size_t octets_len, wd_validity *dates);
 uint32_t wd_extension(const uint8_t *octets, size_t octets_len, const uint8_t *identifier,
                       size_t identifier_len, wd_span *span, bool *critical);
 
-/* Writes the text (RFC 4514) of a name in DER, or the DER of a name that is given as text.
-   - WD_DONE.
+/* wd_name_text writes the text (RFC 4514) of a name in DER. wd_name_of_text writes the DER of a
+   name that is given as text.
+   - WD_DONE: `out` has the result.
    - WD_FAULTY: the bytes aren't a name in DER, or the text isn't UTF-8 or isn't the text of a name
      that has an encoding.
    - WD_NO_ROOM, WD_MEMORY. */
@@ -235,9 +245,9 @@ uint32_t wd_name_text(const uint8_t *octets, size_t octets_len, uint8_t *out, si
 uint32_t wd_name_of_text(const uint8_t *text, size_t text_len, uint8_t *out, size_t out_len,
                          size_t *size);
 
-/* Writes the dotted text of an OID that is given by its content bytes, or the content bytes of an
-   OID that is given as text.
-   - WD_DONE.
+/* wd_identifier_text writes the dotted text of an OID that is given by its content bytes.
+   wd_identifier_of_text writes the content bytes of an OID that is given as text.
+   - WD_DONE: `out` has the result.
    - WD_FAULTY: the input isn't an OID of at most 39 content bytes.
    - WD_NO_ROOM.
    - WD_MEMORY: only from wd_identifier_text. */
@@ -251,7 +261,7 @@ uint32_t wd_identifier_of_text(const uint8_t *text, size_t text_len, uint8_t *ou
    certificates of at most `limit` bytes each, with nothing between them; the first one is issued
    by a trust anchor. `anchors` is a sequence of trust anchors (RFC 5914); certificates are trust
    anchors, too.
-   - WD_DONE.
+   - WD_DONE: `out` has the lines.
    - WD_FAULTY: `chain` isn't a sequence of such certificates.
    - WD_EMPTY: `chain` is empty.
    - WD_ARGUMENTS: `anchors` is wrong, or has 2^32 bytes or more, or `limit` is below 6.
@@ -263,7 +273,8 @@ uint32_t wd_questions(const uint8_t *anchors, size_t anchors_len, const uint8_t 
 /* Validates a chain under trust anchors at the validation time `moment` (seconds since
    1970-01-01T00:00:00Z), for a key purpose (the content bytes of its OID). `answers` are the lines
    of wd_questions whose signatures your verifier has accepted; all other signatures count as
-   invalid. The other arguments are those of wd_questions.
+   invalid. The other arguments are those of wd_questions. Neither host names nor revocation are
+   checked (docs/CLI.md lists what else isn't).
    - WD_DONE: the chain is trusted.
    - WD_REFUSED: the chain breaks a rule. `told` gets the index of the first certificate that breaks
      one, and the first rule that it breaks.
@@ -280,9 +291,9 @@ uint32_t wd_verify(const uint8_t *answers, size_t answers_len, const uint8_t *an
 /* The functions that issue, in libwurstdrape_issue. */
 
 /* Writes the TBSCertificate at an index of the chain that an orders file describes (docs/CLI.md).
-   The root has index 0. It has to be signed by `algorithm` (an AlgorithmIdentifier in DER), with
-   the key of the certificate before it; the root is signed with its own key.
-   - WD_DONE.
+   The root has index 0. You have to sign these bytes by `algorithm` (an AlgorithmIdentifier in
+   DER): those of the root with its own key, and all others with the key of the order before.
+   - WD_DONE: `out` has the TBSCertificate.
    - WD_REFUSED: the orders are rejected.
    - WD_EMPTY: the chain has no such index.
    - WD_ARGUMENTS: the orders file or the algorithm is malformed.
@@ -291,10 +302,9 @@ uint32_t wd_signed_part(const uint8_t *orders, size_t orders_len, uint32_t place
                         const uint8_t *algorithm, size_t algorithm_len, uint8_t *out,
                         size_t out_len, size_t *size);
 
-/* Writes the certificate at that index, with `signature` as the signature of its TBSCertificate.
-   The signature isn't verified: use wd_verify on the whole chain, with its root as trust anchor.
-   The statuses are those of wd_signed_part; WD_ARGUMENTS also means that the signature is too
-   long. */
+/* Writes the certificate at an index, with `signature` as the signature of its TBSCertificate. The
+   signature isn't verified: use wd_verify on the whole chain, with its root as trust anchor. The
+   statuses are those of wd_signed_part; WD_ARGUMENTS also means that the signature is too long. */
 uint32_t wd_issue(const uint8_t *orders, size_t orders_len, uint32_t place,
                   const uint8_t *algorithm, size_t algorithm_len, const uint8_t *signature,
                   size_t signature_len, uint8_t *out, size_t out_len, size_t *size);

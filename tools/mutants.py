@@ -35,6 +35,12 @@ from sources import TOP
 PAGE = TOP / "tests" / "MUTANTS.md"
 TABLES = "\n## What was rejected, and when\n"
 COLUMNS = "| Mutant | What it does | What rejects it | Date | Commit |\n|---|---|---|---|---|"
+# The layers of crates, by how the names of their crates begin.
+LAYERS = {
+    "Object identifiers": "const_oid", "The core of DER": "der_core",
+    "Typed values of DER": "der_types", "Certificates": "x509_cert", "Containers": "pki_",
+    "Validation and issuing": "cert_desk", "`cert_tool`": "cert_tool", "Tests": "test_",
+}
 UNTRIED = "not tried yet"
 MUTANT = re.compile(r"^## (.*?)(?:: (.*))?\n((?:(?!## ).*\n)*)", re.M)
 # What follows such a heading: a key, a change, or another line.
@@ -352,22 +358,49 @@ def mark(found):
         it.path.write_text(head + name + below)
 
 
-def page():
-    """Returns the page: its text as it is, but for the counts, and its tables from the marks."""
-    every, lines = read_all(), [COLUMNS]
-    waiting = [f"- `{it.title}`" for it in every if it.rejected == UNTRIED]
-    for it in (it for it in every if it.rejected and it.rejected != UNTRIED):
+def as_rust(clause, crate):
+    """Returns a clause in which the name of an impl, such as `TypeTrait::f`, is as in Rust."""
+    for path in sorted((TOP / "crates" / crate / "src").rglob("*.rt")):
+        for trait, kind in re.findall(r"^impl\b(.*) for (\w+)", path.read_text(), re.M):
+            trait = re.findall(r"\w+", re.sub(r"<[^<>]*>", "", re.sub(r"<[^<>]*>", "", trait)))[-1:]
+            glued, both = f"`{kind}{''.join(trait)}::", f"`<{kind} as {''.join(trait)}>::"
+            clause = clause.replace(glued, both)
+    return clause
+
+
+def table(mutants):
+    """Returns the lines of a table of mutants with a recorded result."""
+    yield COLUMNS
+    for it in mutants:
         day, commit, clause = it.rejected.split(" ", 2)
         link = f"[`{it.title}`](../crates/{it.crate}/mutants.txt)"
         does = it.text.partition(" Test vectors notice")[0]
-        lines.append(f"| {link} | {does} | {clause} | {day} | {commit} |")
-    vectors = sum(bool(it.vectors) for it in every)
-    counts = f"""- {len(every):,} mutants are in files of {len({it.path for it in every})} crates.
-- {len(lines) - 1} have a recorded result, listed below; only test vectors detect {vectors} of them.
-- {len(waiting)} have to be tried again, because they or their code changed.\n"""
-    text = re.sub(r"^- [\d,]+ mutants are .*?\n(?=\n)", counts, PAGE.read_text(), 1, re.M | re.S)
-    lines += ["", "These have not been tried in their present form:", "", *waiting] * bool(waiting)
-    return "\n".join([text.partition(TABLES)[0] + TABLES, *lines]) + "\n"
+        yield f"| {link} | {does} | {as_rust(clause, it.crate)} | {day} | {commit} |"
+
+
+def page():
+    """Returns the page: its text as it is, but for the counts, and its tables from the marks."""
+    every, rows = read_all(), []
+    lines = ["", "The third column has the function and the clause that rejected the mutant. A",
+             "name without a clause is a law, or a function of which the checker reported no",
+             "clause."]
+    waiting = [it for it in every if it.rejected == UNTRIED]
+    recorded = [it for it in every if it.rejected and it not in waiting]
+    for layer, begin in LAYERS.items():
+        here = [it for it in every if it.crate.startswith(begin)]
+        told = [it for it in here if it in recorded]
+        rows += [f"| {layer} | {len(here):,} | {len(told)} |"] * bool(here)
+        lines += ["", f"### {layer}", "", *table(told)] * bool(told)
+    vectors = sum(bool(it.vectors) for it in recorded)
+    counts = "\n".join(["| Layer | Mutants | With a recorded result |", "|---|---|---|", *rows,
+        f"| all | {len(every):,} | {len(recorded)} |", "",
+        f"Of the {len(recorded)} recorded ones, the prover rejected {len(recorded) - vectors}, and "
+        f"only test vectors detect the other {vectors}.\n\n"])
+    text = re.sub(r"^\| Layer .*?(?=^No result)", counts, PAGE.read_text(), 1, re.M | re.S)
+    lines += ["", "### To be tried", "", f"These {len(waiting)} mutants are new, or they or their "
+              "code have changed since they were tried:", "", *(f"- `{it.title}`" for it in waiting)
+              ] * bool(waiting)
+    return "\n".join([text.partition(TABLES)[0] + TABLES, *lines[1:]]) + "\n"
 
 
 def check(mutants):

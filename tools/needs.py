@@ -30,6 +30,7 @@ NEEDS = {
     "examples/make_chain.sh": "openssl",
     "examples/sign_outside.sh": "openssl xxd",
     "examples/verify_pem.py": "cryptography",
+    "tests/asn1/positions.py": "rt pyasn1_modules",
     "tests/differential/answers.py": "openssl cryptography",
     "tests/differential/described.py": "openssl cryptography pyasn1_modules "
                                        "/usr/share/ca-certificates/mozilla",

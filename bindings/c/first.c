@@ -1,4 +1,4 @@
-/* What a certificate says: first FILE */
+/* Prints what is in a certificate: first FILE */
 #include <stdio.h>
 #include <wurstdrape.h>
 

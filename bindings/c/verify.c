@@ -1,4 +1,4 @@
-/* The verdict on a chain by the answers of a verifier: verify ROOTS CHAIN ANSWERS SECONDS */
+/* Validates a chain with a verifier's answers: verify ROOTS CHAIN ANSWERS SECONDS */
 #include <stdio.h>
 #include <stdlib.h>
 #include <wurstdrape.h>

@@ -1,5 +1,5 @@
 #!/usr/bin/env python3
-"""What a certificate says, and the verdict on a chain:
+"""Prints the subject of a root certificate, and validates a chain under it:
 
     first.py ROOT CHAIN SECONDS
 """

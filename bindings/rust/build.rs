@@ -1,4 +1,4 @@
-//! Where `libwurstdrape.a` and `libwurstdrape_issue.a` lie: the folder that `WURSTDRAPE` names.
+//! Links `libwurstdrape.a` and `libwurstdrape_issue.a` of the folder that `WURSTDRAPE` names.
 
 fn main() {
     println!("cargo:rerun-if-env-changed=WURSTDRAPE");

@@ -1,4 +1,4 @@
-//! What a certificate says: `cargo run --example first FILE`
+//! Prints what is in a certificate: `cargo run --example first FILE`
 
 use wurstdrape::Kind;
 

@@ -1,4 +1,4 @@
-//! What the first of some roots says, and the verdict on a chain under them.
+//! Prints what is in a root certificate, and validates a chain under it.
 //!
 //!     cargo run --example verify ROOTS CHAIN ANSWERS MOMENT
 

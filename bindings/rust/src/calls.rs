@@ -1,7 +1,8 @@
-//! The functions of `wurstdrape.h`, and what each of its statuses is to a caller in Rust.
+//! Calls the functions of `wurstdrape.h`, and converts their statuses to `Result`.
 //!
-//! A slice is never a null pointer in Rust, what is lent by `&mut` overlaps nothing else, and the
-//! octets behind a shared slice stay as they are: these are what `wurstdrape.h` asks of its caller.
+//! Rust's references meet what `wurstdrape.h` requires of its caller: a slice is never a null
+//! pointer, memory behind `&mut` overlaps nothing else, and the bytes of a shared slice don't
+//! change.
 
 use std::ops::Range;
 
@@ -177,7 +178,7 @@ const EMPTY: u32 = 3;
 const ARGUMENTS: u32 = 4;
 const NO_ROOM: u32 = 5;
 
-/// The error that a status is which isn't `DONE`.
+/// Returns the error for a status other than `DONE`.
 fn error_of(status: u32) -> Error {
     match status {
         REFUSED => Error::Refused,
@@ -188,7 +189,8 @@ fn error_of(status: u32) -> Error {
     }
 }
 
-/// What a call writes: again, with as much room as it wants, where 4096 octets are too few.
+/// Returns what a call writes. If 4096 bytes are too few, it is called again with a buffer of the
+/// size that it needs.
 fn written(mut call: impl FnMut(&mut [u8], &mut usize) -> u32) -> Result<Vec<u8>> {
     let mut room = vec![0; 4096];
     loop {
@@ -204,9 +206,9 @@ fn written(mut call: impl FnMut(&mut [u8], &mut usize) -> u32) -> Result<Vec<u8>
     }
 }
 
-/// What a call writes of octets.
+/// Returns what a call writes for these bytes.
 fn written_of(call: Write, octets: &[u8]) -> Result<Vec<u8>> {
-    // SAFETY: the pointers are of slices, and of a value, that are lent for the call.
+    // SAFETY: the pointers are those of slices and a value that are borrowed during the call.
     written(|out, length| unsafe {
         call(
             octets.as_ptr(),
@@ -225,7 +227,7 @@ pub fn fault_of(der: &[u8], kind: Kind) -> Result<Option<Fault>> {
         Kind::Request => wd_is_request,
     };
     let mut told = WdFault::default();
-    // SAFETY: the pointers are of a slice, and of a value, that are lent for the call.
+    // SAFETY: the pointers are those of a slice and a value that are borrowed during the call.
     match unsafe { call(der.as_ptr(), der.len(), &mut told) } {
         DONE => Ok(None),
         FAULTY => Ok(Some(Fault {
@@ -251,7 +253,7 @@ pub fn describe(der: &[u8], kind: Kind, json: bool) -> Result<Vec<u8>> {
         Kind::List => wd_describe_list,
         Kind::Request => wd_describe_request,
     };
-    // SAFETY: the pointers are of slices, and of a value, that are lent for the call.
+    // SAFETY: the pointers are those of slices and a value that are borrowed during the call.
     written(|out, length| unsafe {
         call(
             der.as_ptr(),
@@ -274,7 +276,7 @@ pub fn issuer(der: &[u8]) -> Result<Vec<u8>> {
 
 pub fn parts(der: &[u8]) -> Result<Parts> {
     let mut told = WdSpans::default();
-    // SAFETY: the pointers are of a slice, and of a value, that are lent for the call.
+    // SAFETY: the pointers are those of a slice and a value that are borrowed during the call.
     match unsafe { wd_parts(der.as_ptr(), der.len(), &mut told) } {
         DONE => Ok(Parts {
             signed_part: told.signed_part.range(),
@@ -289,7 +291,7 @@ pub fn parts(der: &[u8]) -> Result<Parts> {
 
 pub fn validity(der: &[u8]) -> Result<Validity> {
     let mut told = WdValidity::default();
-    // SAFETY: the pointers are of a slice, and of a value, that are lent for the call.
+    // SAFETY: the pointers are those of a slice and a value that are borrowed during the call.
     match unsafe { wd_dates(der.as_ptr(), der.len(), &mut told) } {
         DONE => Ok(Validity {
             not_before: told.not_before,
@@ -301,7 +303,7 @@ pub fn validity(der: &[u8]) -> Result<Validity> {
 
 pub fn extension(der: &[u8], identifier: &[u8]) -> Result<Option<Extension>> {
     let (mut span, mut critical) = (WdSpan::default(), false);
-    // SAFETY: the pointers are of slices, and of values, that are lent for the call.
+    // SAFETY: the pointers are those of slices and values that are borrowed during the call.
     let status = unsafe {
         wd_extension(
             der.as_ptr(),
@@ -339,7 +341,7 @@ pub fn identifier_of_text(text: &[u8]) -> Result<Vec<u8>> {
 }
 
 pub fn questions(anchors: &[u8], chain: &[u8], limit: u32) -> Result<Vec<u8>> {
-    // SAFETY: the pointers are of slices, and of a value, that are lent for the call.
+    // SAFETY: the pointers are those of slices and a value that are borrowed during the call.
     written(|out, length| unsafe {
         wd_questions(
             anchors.as_ptr(),
@@ -356,7 +358,7 @@ pub fn questions(anchors: &[u8], chain: &[u8], limit: u32) -> Result<Vec<u8>> {
 
 pub fn verify(answers: &[u8], chain: &[u8], terms: &Terms<'_>) -> Result<Verdict> {
     let mut told = WdPlace::default();
-    // SAFETY: the pointers are of slices, and of a value, that are lent for the call.
+    // SAFETY: the pointers are those of slices and a value that are borrowed during the call.
     let status = unsafe {
         wd_verify(
             answers.as_ptr(),
@@ -389,7 +391,7 @@ pub fn verify(answers: &[u8], chain: &[u8], terms: &Terms<'_>) -> Result<Verdict
 }
 
 pub fn signed_part(orders: &[u8], place: u32, algorithm: &[u8]) -> Result<Vec<u8>> {
-    // SAFETY: the pointers are of slices, and of a value, that are lent for the call.
+    // SAFETY: the pointers are those of slices and a value that are borrowed during the call.
     written(|out, length| unsafe {
         wd_signed_part(
             orders.as_ptr(),
@@ -405,7 +407,7 @@ pub fn signed_part(orders: &[u8], place: u32, algorithm: &[u8]) -> Result<Vec<u8
 }
 
 pub fn issue(orders: &[u8], place: u32, algorithm: &[u8], signature: &[u8]) -> Result<Vec<u8>> {
-    // SAFETY: the pointers are of slices, and of a value, that are lent for the call.
+    // SAFETY: the pointers are those of slices and a value that are borrowed during the call.
     written(|out, length| unsafe {
         wd_issue(
             orders.as_ptr(),
@@ -424,7 +426,7 @@ pub fn issue(orders: &[u8], place: u32, algorithm: &[u8], signature: &[u8]) -> R
 
 pub fn audit(orders: &[u8], algorithm: &[u8], moment: u64, purpose: &[u8]) -> Result<Audit> {
     let mut told = WdReason::default();
-    // SAFETY: the pointers are of slices, and of a value, that are lent for the call.
+    // SAFETY: the pointers are those of slices and a value that are borrowed during the call.
     let status = unsafe {
         wd_audit(
             orders.as_ptr(),

@@ -1,7 +1,9 @@
-//! Certificates (RFC 5280), revocation lists and requests, read and judged by proved code.
+//! Decodes, prints and describes X.509 certificates (RFC 5280), CRLs and CSRs, and validates and
+//! issues certificate chains.
 //!
-//! All octets are DER. Each function calls one function of `wurstdrape.h`; what is proved of it,
-//! and what isn't, stands in docs/FROM_OTHERS.md of the repository.
+//! Each function calls one function of `wurstdrape.h`, which is formally verified. The wrappers of
+//! this crate are only tested. docs/FROM_OTHERS.md of the repository says what is proved about each
+//! function. Bytes are DER, except for answers, orders files, texts and the content bytes of OIDs.
 #![deny(missing_docs, unsafe_op_in_unsafe_fn)]
 
 mod calls;
@@ -12,44 +14,45 @@ use std::ops::Range;
 
 pub use numbers::{ChainFault, FaultKind, OrderFault, Rule};
 
-/// The greatest number of octets of a certificate of a chain that fits most purposes.
+/// A size limit for one certificate of a chain, in bytes, that fits most purposes.
 pub const LIMIT: u32 = 65536;
 
-/// The content octets of id-kp-serverAuth (RFC 5280 4.2.1.12).
+/// The content bytes of the OID id-kp-serverAuth (RFC 5280 4.2.1.12).
 pub const SERVER_AUTH: &[u8] = &[0x2b, 6, 1, 5, 5, 7, 3, 1];
 
-/// What octets may be the encoding of.
+/// The kinds of values that can be decoded.
 #[derive(Clone, Copy, Debug, PartialEq, Eq)]
 pub enum Kind {
     /// A certificate (RFC 5280 4.1).
     Certificate,
-    /// A revocation list (RFC 5280 5.1).
+    /// A certificate revocation list, or CRL (RFC 5280 5.1).
     List,
-    /// A certification request (RFC 2986 4.2).
+    /// A certification request, or CSR (RFC 2986 4.2).
     Request,
 }
 
-/// The first error that reading the octets meets.
+/// The first error that decoding meets. Its kind is proved, and its position is only tested.
 #[derive(Clone, Copy, Debug, PartialEq, Eq)]
 pub struct Fault {
-    /// Which it is.
+    /// The kind of the error.
     pub kind: FaultKind,
-    /// Where it was found, counted from 0, where that is known.
+    /// The index of the byte at which it was found, counted from 0, if it is known.
     pub octet: Option<u64>,
 }
 
-/// Why a call was refused.
+/// The error of a call.
 #[derive(Clone, Copy, Debug, PartialEq, Eq)]
 pub enum Error {
-    /// Orders are refused.
+    /// The orders are rejected.
     Refused,
-    /// The octets, or the text, aren't what they should be.
+    /// The input isn't DER, or text, of the expected type.
     Faulty,
-    /// A chain without certificates, or without one at a place.
+    /// The chain is empty, or has no certificate at the index.
     Empty,
-    /// Anchors, answers, orders, a limit, an algorithm or an identifier are faulty.
+    /// The trust anchors, the answers, the orders file, the limit, the algorithm or an OID are
+    /// wrong.
     Arguments,
-    /// There was no memory.
+    /// Out of memory.
     Memory,
 }
 
@@ -67,37 +70,37 @@ impl fmt::Display for Error {
 
 impl std::error::Error for Error {}
 
-/// What a call answers that may be refused.
+/// The result of a call that can fail.
 pub type Result<T> = std::result::Result<T, Error>;
 
-/// The dates of a certificate, in seconds since 1970-01-01T00:00:00Z.
+/// The validity period of a certificate, in seconds since 1970-01-01T00:00:00Z.
 #[derive(Clone, Copy, Debug, PartialEq, Eq)]
 pub struct Validity {
-    /// The first second.
+    /// The first second of the period.
     pub not_before: u64,
-    /// The last second.
+    /// The last second of the period.
     pub not_after: u64,
 }
 
-/// Where parts of a certificate stand in its octets (RFC 5280 4.1).
+/// The positions of the parts of a certificate in its bytes (RFC 5280 4.1).
 #[derive(Clone, Debug, PartialEq, Eq)]
 pub struct Parts {
-    /// What is signed, a TBSCertificate.
+    /// The TBSCertificate, which is the signed part.
     pub signed_part: Range<usize>,
-    /// The serial number's content octets, the highest first, in two's complement.
+    /// The content bytes of the serial number: two's complement, most significant byte first.
     pub serial_number: Range<usize>,
-    /// The issuer's name in DER.
+    /// The issuer's name.
     pub issuer: Range<usize>,
-    /// The subject's name in DER.
+    /// The subject's name.
     pub subject: Range<usize>,
-    /// The public key with its algorithm, a SubjectPublicKeyInfo.
+    /// The SubjectPublicKeyInfo, which contains the public key and its algorithm.
     pub public_key: Range<usize>,
 }
 
 /// An extension of a certificate.
 #[derive(Clone, Debug, PartialEq, Eq)]
 pub struct Extension {
-    /// Where its content stands in the certificate.
+    /// The position of its content in the certificate.
     pub content: Range<usize>,
     /// Whether it is critical.
     pub critical: bool,
@@ -108,209 +111,249 @@ pub struct Extension {
 pub enum Verdict {
     /// Each certificate keeps every rule.
     Trusted,
-    /// The certificate at `place`, the first that breaks a rule, breaks `rule`, its first one.
+    /// The certificate at index `place` is the first one that breaks a rule, and `rule` is the
+    /// first rule that it breaks.
     Refused {
-        /// The place of the certificate, counted from 0.
+        /// The index of the certificate, counted from 0.
         place: u64,
-        /// The rule.
+        /// The rule that is broken.
         rule: Rule,
     },
-    /// The octets aren't certificates: a fault begins at `offset`, after `place` of them.
+    /// The bytes from `offset` on, after the first `place` certificates, aren't a certificate.
     Faulty {
-        /// The number of certificates before the fault.
+        /// The number of certificates before the error.
         place: u64,
-        /// Where it begins.
+        /// The index of the first byte that doesn't belong to a certificate.
         offset: u64,
-        /// Which it is.
+        /// The kind of the error.
         fault: ChainFault,
     },
-    /// There is no certificate.
+    /// The chain is empty.
     Empty,
 }
 
-/// What the chain that orders ask for comes to.
+/// Whether the chain that an orders file describes will be trusted.
 #[derive(Clone, Copy, Debug, PartialEq, Eq)]
 pub enum Audit {
-    /// It is trusted under its own root, where its signatures are right.
+    /// It will be trusted under its own root, if its signatures are valid and each certificate is
+    /// within the size limit of the validation.
     Trusted,
-    /// Its certificate at `place`, the first that breaks a rule, breaks `rule`, its first one.
+    /// Its certificate at index `place` is the first one that breaks a rule, and `rule` is the
+    /// first rule that it breaks.
     Refused {
-        /// The place of the certificate, counted from 0.
+        /// The index of the certificate, counted from 0.
         place: u64,
-        /// The rule.
+        /// The rule that is broken.
         rule: Rule,
     },
-    /// There is none: the order at `place` is refused.
+    /// The order at index `place` is rejected, so there is no chain.
     NotIssued {
-        /// The place of the order, counted from 0.
+        /// The index of the order, counted from 0.
         place: u64,
-        /// What is wrong with it.
+        /// The reason why it is rejected.
         fault: OrderFault,
     },
 }
 
-/// What a chain is judged by.
+/// The parameters of a validation.
 #[derive(Clone, Copy, Debug)]
 pub struct Terms<'a> {
-    /// Trust anchors (RFC 5914), as certificates are, with nothing between them.
+    /// Trust anchors (RFC 5914), with nothing between them. Certificates are trust anchors, too.
     pub anchors: &'a [u8],
     /// The validation time, in seconds since 1970-01-01T00:00:00Z.
     pub moment: u64,
-    /// The content octets of the key purpose's identifier.
+    /// The content bytes of the OID of the key purpose.
     pub purpose: &'a [u8],
-    /// The greatest number of octets of a certificate, at least 6.
+    /// The size limit for one certificate, in bytes; at least 6.
     pub limit: u32,
 }
 
-/// The first fault of octets that don't encode a value of the kind, or none where they do.
+/// Returns the first error of decoding these bytes as a value of the kind, or `None` if they are
+/// the encoding of one.
 ///
 /// # Errors
-/// `Memory`.
+///
+/// - `Memory`: out of memory.
 pub fn fault_of(der: &[u8], kind: Kind) -> Result<Option<Fault>> {
     calls::fault_of(der, kind)
 }
 
-/// The listing of a value of the kind, as `cert_desk show` prints it.
+/// Returns the listing of a value of the kind, as `cert_desk show` prints it.
 ///
 /// # Errors
-/// `Faulty` where octets encode none, `Memory`.
+///
+/// - `Faulty`: the bytes aren't the encoding of a value of the kind.
+/// - `Memory`: out of memory.
 pub fn show(der: &[u8], kind: Kind) -> Result<String> {
     calls::show(der, kind).map(text)
 }
 
-/// The description of a value of the kind, as `cert_tool describe` prints it, as lines or as JSON.
-/// What it says isn't proved.
+/// Returns the description of a value of the kind, as `cert_tool describe` prints it, as lines or
+/// as JSON. The text is tested, but not proved.
 ///
 /// # Errors
-/// `Faulty` where octets encode none, `Memory`.
+///
+/// - `Faulty`: the bytes aren't the encoding of a value of the kind.
+/// - `Memory`: out of memory.
 pub fn describe(der: &[u8], kind: Kind, json: bool) -> Result<String> {
     calls::describe(der, kind, json).map(text)
 }
 
-/// The subject's name in a certificate (RFC 4514).
+/// Returns the subject's name of a certificate as text (RFC 4514).
 ///
 /// # Errors
-/// `Faulty` where octets encode none, `Memory`.
+///
+/// - `Faulty`: the bytes aren't the encoding of a certificate.
+/// - `Memory`: out of memory.
 pub fn subject(der: &[u8]) -> Result<String> {
     calls::subject(der).map(text)
 }
 
-/// The issuer's name in a certificate (RFC 4514).
+/// Returns the issuer's name of a certificate as text (RFC 4514).
 ///
 /// # Errors
-/// `Faulty` where octets encode none, `Memory`.
+///
+/// - `Faulty`: the bytes aren't the encoding of a certificate.
+/// - `Memory`: out of memory.
 pub fn issuer(der: &[u8]) -> Result<String> {
     calls::issuer(der).map(text)
 }
 
-/// Where parts of a certificate stand in its octets. Nothing is copied.
+/// Returns the positions of the parts of a certificate. Nothing is copied.
 ///
 /// # Errors
-/// `Faulty` where octets encode none, `Memory`.
+///
+/// - `Faulty`: the bytes aren't the encoding of a certificate.
+/// - `Memory`: out of memory.
 pub fn parts(der: &[u8]) -> Result<Parts> {
     calls::parts(der)
 }
 
-/// The dates of a certificate.
+/// Returns the validity period of a certificate.
 ///
 /// # Errors
-/// `Faulty` where octets encode none, `Memory`.
+///
+/// - `Faulty`: the bytes aren't the encoding of a certificate.
+/// - `Memory`: out of memory.
 pub fn validity(der: &[u8]) -> Result<Validity> {
     calls::validity(der)
 }
 
-/// A certificate's first extension of an identifier, which is given by its content octets, or none
-/// where it has no such extension.
+/// Finds the first extension of a certificate with an OID, or returns `None` if it has no such
+/// extension. `identifier` is the content bytes of the OID. A second extension with the same OID,
+/// which RFC 5280 4.2 forbids and [`verify`] rejects, isn't reported.
 ///
 /// # Errors
-/// `Faulty` where octets encode no certificate, `Arguments` where the identifier is none of up to
-/// 39 octets, `Memory`.
+///
+/// - `Faulty`: the bytes aren't the encoding of a certificate.
+/// - `Arguments`: `identifier` isn't an OID of at most 39 bytes.
+/// - `Memory`: out of memory.
 pub fn extension(der: &[u8], identifier: &[u8]) -> Result<Option<Extension>> {
     calls::extension(der, identifier)
 }
 
-/// The text of a name in DER (RFC 4514).
+/// Returns the text of a name (RFC 4514) that is given in DER.
 ///
 /// # Errors
-/// `Faulty` where octets encode none, `Memory`.
+///
+/// - `Faulty`: the bytes aren't the encoding of a name.
+/// - `Memory`: out of memory.
 pub fn name_text(der: &[u8]) -> Result<String> {
     calls::name_text(der).map(text)
 }
 
-/// The DER of the name that a text says (RFC 4514).
+/// Returns the DER of a name that is given as text (RFC 4514).
 ///
 /// # Errors
-/// `Faulty` where it says none, `Memory`.
+///
+/// - `Faulty`: the text isn't that of a name that has an encoding.
+/// - `Memory`: out of memory.
 pub fn name_of_text(name: &str) -> Result<Vec<u8>> {
     calls::name_of_text(name.as_bytes())
 }
 
-/// The dotted text of an identifier's content octets (X.690 8.19).
+/// Returns the dotted text of an OID that is given by its content bytes (X.690 8.19).
 ///
 /// # Errors
-/// `Faulty` where they are none of up to 39 octets, `Memory`.
+///
+/// - `Faulty`: the bytes aren't an OID of at most 39 bytes.
+/// - `Memory`: out of memory.
 pub fn identifier_text(octets: &[u8]) -> Result<String> {
     calls::identifier_text(octets).map(text)
 }
 
-/// The content octets of the identifier that a dotted text names.
+/// Returns the content bytes of an OID that is given as dotted text.
 ///
 /// # Errors
-/// `Faulty` where it names none of up to 39 octets.
+///
+/// - `Faulty`: the text isn't that of an OID of at most 39 content bytes.
 pub fn identifier_of_text(identifier: &str) -> Result<Vec<u8>> {
     calls::identifier_of_text(identifier.as_bytes())
 }
 
-/// What the signatures of a chain may ask under anchors, a line each: `PLACE ANCHOR KEY ALGORITHM
-/// SIGNED BITS`, as `cert_tool questions` prints them. The certificate below an anchor stands
-/// first.
+/// Returns a line for each signature that has to be verified to validate a chain under trust
+/// anchors: `PLACE ANCHOR KEY ALGORITHM SIGNED BITS`, as `cert_tool questions` prints them. The
+/// first certificate of the chain is the one that a trust anchor issued.
 ///
 /// # Errors
-/// `Faulty` where the chain's octets aren't certificates, `Empty`, `Arguments` where the anchors or
-/// the limit are faulty, `Memory`.
+///
+/// - `Faulty`: the chain isn't a sequence of certificates of at most `limit` bytes each.
+/// - `Empty`: the chain is empty.
+/// - `Arguments`: the trust anchors are wrong, or have 2^32 bytes or more, or the limit is below 6.
+/// - `Memory`: out of memory.
 pub fn questions(anchors: &[u8], chain: &[u8], limit: u32) -> Result<String> {
     calls::questions(anchors, chain, limit).map(text)
 }
 
-/// The verdict on a chain, where a signature is right exactly where the answers list it: lines of
-/// `questions`, those whose signature a verifier of yours has verified.
+/// Validates a chain. `answers` are the lines of [`questions`] whose signatures your verifier has
+/// accepted; all other signatures count as invalid. Neither host names nor revocation are checked.
 ///
 /// # Errors
-/// `Arguments` where anchors, answers, purpose or limit are faulty, `Memory`.
+///
+/// - `Arguments`: the trust anchors, the answers, the purpose or the limit are wrong.
+/// - `Memory`: out of memory.
 pub fn verify(answers: &[u8], chain: &[u8], terms: &Terms<'_>) -> Result<Verdict> {
     calls::verify(answers, chain, terms)
 }
 
-/// What is signed of the certificate at a place of the chain that an orders file asks for, 0 for
-/// its root: by this algorithm (an AlgorithmIdentifier in DER), with the key of the certificate
-/// above, the root with its own.
+/// Returns the TBSCertificate at an index of the chain that an orders file describes. The root has
+/// index 0. You have to sign these bytes by `algorithm` (an AlgorithmIdentifier in DER): those of
+/// the root with its own key, and all others with the key of the order before.
 ///
 /// # Errors
-/// `Refused` where the orders are refused, `Empty` where the chain has no such place, `Arguments`
-/// where the orders file or the algorithm is faulty, `Memory`.
+///
+/// - `Refused`: the orders are rejected.
+/// - `Empty`: the chain has no certificate at this index.
+/// - `Arguments`: the orders file or the algorithm is malformed.
+/// - `Memory`: out of memory.
 pub fn signed_part(orders: &str, place: u32, algorithm: &[u8]) -> Result<Vec<u8>> {
     calls::signed_part(orders.as_bytes(), place, algorithm)
 }
 
-/// That certificate, with this signature of its signed part. Whether it is right isn't looked at.
+/// Returns the certificate at an index, with `signature` as the signature of its TBSCertificate.
+/// The signature isn't verified: use [`verify`] on the whole chain, with its root as trust anchor.
 ///
 /// # Errors
-/// Those of [`signed_part`].
+///
+/// Those of [`signed_part`]. `Arguments` also means that the signature is too long.
 pub fn issue(orders: &str, place: u32, algorithm: &[u8], signature: &[u8]) -> Result<Vec<u8>> {
     calls::issue(orders.as_bytes(), place, algorithm, signature)
 }
 
-/// What the chain that an orders file asks for, signed by this algorithm, comes to under its own
-/// root at a validation time (seconds since 1970-01-01T00:00:00Z) and for a key purpose (the content
-/// octets of its identifier), where its signatures are right.
+/// Returns whether the chain that an orders file describes, signed by `algorithm`, will be trusted
+/// under its own root at the validation time `moment` (seconds since 1970-01-01T00:00:00Z), for a
+/// key purpose (the content bytes of its OID), if all its signatures are valid and each certificate
+/// is within the size limit of the validation.
 ///
 /// # Errors
-/// `Arguments` where the orders file, the algorithm or the purpose is faulty, `Memory`.
+///
+/// - `Arguments`: the orders file, the algorithm or the purpose is malformed.
+/// - `Memory`: out of memory.
 pub fn audit(orders: &str, algorithm: &[u8], moment: u64, purpose: &[u8]) -> Result<Audit> {
     calls::audit(orders.as_bytes(), algorithm, moment, purpose)
 }
 
-/// Text that a call wrote, which is UTF-8.
+/// Converts the text that a call wrote, which is UTF-8.
 fn text(octets: Vec<u8>) -> String {
     String::from_utf8(octets).expect("the calls write UTF-8")
 }

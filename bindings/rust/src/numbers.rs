@@ -1,36 +1,37 @@
-//! The numbers of rules, of reasons and of kinds of faults, those of `wurstdrape.h`.
+//! The numbers of rules, reasons and kinds of errors, which are those of `wurstdrape.h`.
 
-/// The rules of a chain (RFC 5280 6.1), in the order in which they are judged.
+/// The rules for each certificate of a chain (RFC 5280 6.1), in the order in which they are
+/// checked.
 #[derive(Clone, Copy, Debug, PartialEq, Eq)]
 #[repr(u8)]
 pub enum Rule {
-    /// The algorithm inside the TBSCertificate isn't the one outside (RFC 5280 4.1.1.2).
+    /// The signature algorithms inside and outside of the TBSCertificate differ (RFC 5280 4.1.1.2).
     AlgorithmsDiffer = 1,
-    /// Two extensions have one identifier (4.2).
+    /// Two extensions have the same OID (4.2).
     DuplicateExtension = 2,
-    /// An extension of a weighed kind isn't one value of its kind.
+    /// The content of keyUsage, subjectAltName, basicConstraints or extKeyUsage can't be decoded.
     MalformedExtension = 3,
-    /// A critical extension is of no weighed kind (4.2).
+    /// An extension other than these four is critical (4.2).
     UnweighedCritical = 4,
-    /// Name chaining: the issuer's octets aren't the subject's of the certificate before; of the
-    /// first one, they aren't those of any anchor's name (6.1.3 (a)(4)).
+    /// The issuer isn't, byte for byte, the subject of the certificate before or, for the first
+    /// certificate, the name of a trust anchor (6.1.3 (a)(4)).
     WrongIssuer = 5,
     /// The validation time is before the validity (6.1.3 (a)(2)).
     NotYetValid = 6,
     /// The validation time is after the validity (6.1.3 (a)(2)).
     Expired = 7,
-    /// The key purpose isn't allowed (4.2.1.12).
+    /// extKeyUsage has neither the key purpose nor anyExtendedKeyUsage (4.2.1.12).
     AgainstPurpose = 8,
-    /// The certificate isn't the last, and isn't a CA's (6.1.4 (k), (n)).
+    /// Another certificate follows, and this one isn't a CA's (6.1.4 (k), (n)).
     NotAuthority = 9,
-    /// The certification path is longer than a certificate before allows (6.1.4 (l), (m)).
+    /// The certificate is a CA beyond the path length of an earlier one (6.1.4 (l), (m)).
     PathTooLong = 10,
-    /// The signature over the TBSCertificate isn't the issuer's (6.1.3 (a)(1)).
+    /// The verifier doesn't accept the signature over the TBSCertificate (6.1.3 (a)(1)).
     WrongSignature = 11,
 }
 
 impl Rule {
-    /// All of them, in the order of their numbers.
+    /// All rules, in the order of their numbers.
     pub const ALL: [Rule; 11] = [
         Rule::AlgorithmsDiffer,
         Rule::DuplicateExtension,
@@ -50,30 +51,30 @@ impl Rule {
     }
 }
 
-/// Why orders are refused.
+/// The reasons why orders are rejected.
 #[derive(Clone, Copy, Debug, PartialEq, Eq)]
 #[repr(u8)]
 pub enum OrderFault {
-    /// There is no order.
+    /// The file has no orders.
     NoOrders = 21,
-    /// The text of the name isn't read.
+    /// The name can't be parsed.
     Name = 22,
-    /// The name isn't one of a CA.
+    /// The name isn't allowed for a root.
     RootName = 23,
-    /// The name has an attribute that is no country and no common name.
+    /// The name isn't allowed for an end entity.
     SubscriberName = 24,
-    /// The serial number has no octets, or more than 20.
+    /// The serial number has no bytes, or more than 20.
     Serial = 25,
-    /// The text of a date isn't read, or the last date is before the first.
+    /// A date is invalid, or notAfter is before notBefore.
     Dates = 26,
-    /// There is no DNS name, or one that isn't ASCII.
+    /// An end entity has no DNS name, or one that isn't ASCII.
     DnsName = 27,
-    /// A length passes 2^32 - 1.
+    /// A length exceeds 2^32 - 1.
     TooLong = 28,
 }
 
 impl OrderFault {
-    /// All of them, in the order of their numbers.
+    /// All reasons, in the order of their numbers.
     pub const ALL: [OrderFault; 8] = [
         OrderFault::NoOrders,
         OrderFault::Name,
@@ -85,35 +86,35 @@ impl OrderFault {
         OrderFault::TooLong,
     ];
 
-    /// The one of a number, which is none where it is that of a rule.
+    /// Returns the reason with this number, or `None` if the number is that of a rule.
     pub(crate) fn of(number: u64) -> Option<OrderFault> {
         OrderFault::ALL.into_iter().find(|fault| *fault as u64 == number)
     }
 }
 
-/// What can be wrong with the octets of a chain.
+/// The errors of bytes that aren't a sequence of certificates.
 #[derive(Clone, Copy, Debug, PartialEq, Eq)]
 #[repr(u8)]
 pub enum ChainFault {
-    /// The first octet isn't that of a SEQUENCE.
+    /// The byte where a certificate should begin isn't 0x30.
     NoCertificate = 1,
-    /// The length is indefinite.
+    /// The length of the certificate is indefinite.
     Indefinite = 2,
-    /// The length has more than four octets.
+    /// The length has more than four bytes after the first.
     LengthTooWide = 3,
-    /// The header is whole, and its length octets aren't the fewest (X.690 10.1).
+    /// The length isn't in the shortest form (X.690 10.1).
     LengthNotShortest = 4,
-    /// The header is whole, and header and content pass the limit, or would end past 2^64 - 1
-    /// octets.
+    /// The certificate has more bytes than the limit, or the chain up to its end has 2^64 bytes or
+    /// more.
     TooLarge = 5,
-    /// The certificate is whole, and isn't the DER encoding of one.
+    /// The bytes aren't a certificate in DER.
     Malformed = 6,
-    /// The stream ends inside a certificate.
+    /// The chain ends inside a certificate.
     Truncated = 7,
 }
 
 impl ChainFault {
-    /// All of them, in the order of their numbers.
+    /// All errors, in the order of their numbers.
     pub const ALL: [ChainFault; 7] = [
         ChainFault::NoCertificate,
         ChainFault::Indefinite,
@@ -129,61 +130,63 @@ impl ChainFault {
     }
 }
 
-/// The kinds of faults of octets in DER.
+/// The kinds of decoding errors. docs/ENCODING.md says which bytes cause which of them.
+/// `EncodingRules`, `Failed`, `OidUnknown`, `OutOfMemory`, `Reader` and `TagModeUnknown` aren't
+/// errors of bytes.
 #[derive(Clone, Copy, Debug, PartialEq, Eq)]
 #[repr(u8)]
 pub enum FaultKind {
-    /// A civil date, or its text, that is none or lies outside 1970 to 9999.
+    /// A text isn't a date, or the date is before 1970 or after 9999.
     DateTime = 1,
-    /// The name of no encoding rules.
+    /// A text isn't the name of encoding rules.
     EncodingRules = 2,
-    /// A reader or a writer that failed before.
+    /// The reader or the writer failed in an earlier call.
     Failed = 3,
-    /// Octets run out.
+    /// The input ends too early.
     Incomplete = 4,
-    /// An indefinite length where DER rules.
+    /// A length is indefinite, which DER doesn't allow.
     IndefiniteLength = 5,
-    /// A length that the type can't have, or that isn't encoded in the fewest octets.
+    /// The type can't have this length, or the length isn't in its shortest form.
     Length = 6,
-    /// More levels than may be open.
+    /// There are more levels of nesting than may be open.
     NestingDepth = 7,
-    /// A value in another encoding than the one that DER allows.
+    /// A value isn't encoded in the only form that DER allows.
     Noncanonical = 8,
-    /// An object identifier that is none.
+    /// The bytes aren't an object identifier.
     OidMalformed = 9,
-    /// An object identifier to which the caller's protocol gives no meaning. No call of these
-    /// crates answers it.
+    /// The caller's protocol doesn't know an object identifier. No function of these crates returns
+    /// this error.
     OidUnknown = 10,
-    /// Want of memory.
+    /// An allocation failed.
     OutOfMemory = 11,
-    /// A sum past the greatest length, or a difference below zero.
+    /// A length exceeds 2^32 - 1, or a difference of lengths is negative.
     Overflow = 12,
-    /// A length of more than four octets, or more than there is room for.
+    /// A length has more than four bytes, or there isn't room for all bytes or members.
     Overlength = 13,
-    /// A reader that can't do what was asked.
+    /// The reader doesn't support the operation.
     Reader = 14,
-    /// A member of a set that stands twice.
+    /// A set contains a member twice.
     SetDuplicate = 15,
-    /// A member of a set below the one before it.
+    /// A member of a set is less than the one before it.
     SetOrdering = 16,
-    /// The name of no tag mode.
+    /// A text isn't the name of a tag mode.
     TagModeUnknown = 17,
-    /// The number of a tag that isn't spelled in its shortest form, or passes 32 bits.
+    /// A tag number isn't in its shortest form, or exceeds 32 bits.
     TagNumberInvalid = 18,
-    /// Another tag than the one that must stand.
+    /// The tag isn't the expected one.
     TagUnexpected = 19,
-    /// A tag of the universal class that isn't read.
+    /// The tag is of the universal class and isn't supported.
     TagUnknown = 20,
-    /// Octets after the last field or value.
+    /// There are bytes after the last field or value.
     TrailingData = 21,
-    /// A text that isn't UTF-8.
+    /// A text isn't UTF-8.
     Utf8 = 22,
-    /// A value that the type doesn't have.
+    /// The type doesn't have this value.
     Value = 23,
 }
 
 impl FaultKind {
-    /// All of them, in the order of their numbers.
+    /// All kinds, in the order of their numbers.
     pub const ALL: [FaultKind; 23] = [
         FaultKind::DateTime,
         FaultKind::EncodingRules,

@@ -1,5 +1,5 @@
-//! The calls over files of the repository. What is wanted was told by OpenSSL, or stands in a
-//! standard.
+//! Calls the functions for files of the repository. The expected results are those of OpenSSL, or
+//! of a standard.
 
 use std::fs;
 use std::path::Path;

@@ -1,12 +1,15 @@
-"""Certificates (RFC 5280), revocation lists and requests, read and judged by proved code.
+"""Decodes, prints and describes X.509 certificates (RFC 5280), CRLs and CSRs, and validates and
+issues certificate chains.
 
     import wurstdrape
 
     wurstdrape.describe(der)                        # a dict
     wurstdrape.verify(roots, [ca, server]).trusted  # with `cryptography` as verifier
 
-All octets are DER. Octets that aren't what they should be raise `Malformed`; other refusals raise
-`Error`. What is proved, and what isn't, stands in docs/FROM_OTHERS.md of the repository.
+The functions call those of `wurstdrape.h`, which are formally verified; this module is only tested.
+docs/FROM_OTHERS.md of the repository says what is proved about each function. Bytes are DER, except
+for answers, orders files, texts and the content bytes of OIDs. Input that can't be decoded raises
+`Malformed`, other errors raise `Error`, and `MemoryError` is raised if memory runs out.
 """
 
 from __future__ import annotations
@@ -29,20 +32,20 @@ __all__ = [
     "questions", "serial_number", "show", "signed_part", "subject", "validity", "verify",
 ]
 
-# The greatest number of octets of a certificate of a chain, where a call isn't given another.
+# The default size limit for one certificate of a chain, in bytes.
 LIMIT = 65536
 # id-kp-serverAuth (RFC 5280 4.2.1.12)
 SERVER_AUTH = "1.3.6.1.5.5.7.3.1"
 
 Octets = typing.Union[bytes, bytearray, memoryview]
-# Octets, or encodings that are taken one after the other.
+# Bytes, or several values that are concatenated.
 Several = typing.Union[Octets, typing.Iterable[Octets]]
-# Seconds since 1970 are taken as they are; None is now.
+# A number is seconds since 1970, and None is the present time.
 Moment = typing.Union[datetime.datetime, int, None]
 
 
 class Status(enum.IntEnum):
-    """What a call returns."""
+    """The statuses that the functions of `wurstdrape.h` return."""
 
     DONE = 0
     REFUSED = 1
@@ -54,7 +57,7 @@ class Status(enum.IntEnum):
 
 
 class Kind(enum.Enum):
-    """What octets may be the encoding of."""
+    """The kinds of values that can be decoded."""
 
     CERTIFICATE = "certificate"
     LIST = "list"
@@ -62,7 +65,7 @@ class Kind(enum.Enum):
 
 
 class Rule(enum.IntEnum):
-    """The rules of a chain (RFC 5280 6.1), in the order in which they are judged."""
+    """The rules for each certificate of a chain (RFC 5280 6.1), in the order of the checks."""
 
     ALGORITHMS_DIFFER = 1
     DUPLICATE_EXTENSION = 2
@@ -78,7 +81,7 @@ class Rule(enum.IntEnum):
 
 
 class ChainFault(enum.IntEnum):
-    """What can be wrong with the octets of a chain."""
+    """The errors of bytes that aren't a sequence of certificates."""
 
     NO_CERTIFICATE = 1
     INDEFINITE = 2
@@ -90,7 +93,7 @@ class ChainFault(enum.IntEnum):
 
 
 class OrderFault(enum.IntEnum):
-    """Why orders are refused."""
+    """The reasons why orders are rejected."""
 
     NO_ORDERS = 21
     NAME = 22
@@ -103,7 +106,7 @@ class OrderFault(enum.IntEnum):
 
 
 class FaultKind(enum.IntEnum):
-    """The kinds of faults of octets in DER."""
+    """The kinds of decoding errors. docs/ENCODING.md says which bytes cause which of them."""
 
     DATE_TIME = 1
     ENCODING_RULES = 2
@@ -132,15 +135,15 @@ class FaultKind(enum.IntEnum):
 
 @dataclasses.dataclass(frozen=True)
 class Fault:
-    """The first error that reading the octets meets."""
+    """The first error that decoding meets. Its kind is proved, its position only tested."""
 
     kind: FaultKind
-    # Where it was found, counted from 0, where that is known.
+    # The index of the byte at which it was found, counted from 0, or None if it isn't known.
     octet: int | None
 
 
 class Error(Exception):
-    """A call that was refused."""
+    """The error of a call, with the status that the function returned."""
 
     def __init__(self, status: Status, why: str):
         super().__init__(why)
@@ -148,7 +151,7 @@ class Error(Exception):
 
 
 class Malformed(Error):
-    """Octets, or a text, that aren't what they should be, and the first fault where it is known."""
+    """The input can't be decoded. Contains the first error, if it is known."""
 
     def __init__(self, what: str, fault: Fault | None = None):
         where = "" if fault is None else f": {fault.kind.name} at octet {fault.octet}"
@@ -158,7 +161,7 @@ class Malformed(Error):
 
 @dataclasses.dataclass(frozen=True)
 class Validity:
-    """The first and the last second of a certificate."""
+    """The validity period of a certificate: its first and its last second."""
 
     not_before: datetime.datetime
     not_after: datetime.datetime
@@ -166,16 +169,16 @@ class Validity:
 
 @dataclasses.dataclass(frozen=True)
 class Parts:
-    """Parts of a certificate (RFC 5280 4.1), as they stand in its octets: nothing is copied."""
+    """The parts of a certificate (RFC 5280 4.1). They refer to its bytes; nothing is copied."""
 
-    # What is signed, a TBSCertificate.
+    # The TBSCertificate, which is the signed part.
     signed_part: memoryview
-    # The content octets, the highest first, in two's complement.
+    # The content bytes: two's complement, most significant byte first.
     serial_number: memoryview
-    # Names in DER.
+    # The names in DER.
     issuer: memoryview
     subject: memoryview
-    # With its algorithm, a SubjectPublicKeyInfo.
+    # The SubjectPublicKeyInfo, which contains the public key and its algorithm.
     public_key: memoryview
 
 
@@ -184,10 +187,11 @@ class Verdict:
     """The verdict on a chain."""
 
     status: Status
-    # The certificate that breaks the rule, counted from 0, or after which the octets have a fault.
+    # The index of the certificate that breaks the rule, or the number of certificates before the
+    # error.
     place: int | None = None
     rule: Rule | None = None
-    # Where the fault begins, and which it is.
+    # The index of the first byte that doesn't belong to a certificate, and the kind of the error.
     offset: int | None = None
     fault: ChainFault | None = None
 
@@ -199,17 +203,18 @@ class Verdict:
 
 @dataclasses.dataclass(frozen=True)
 class Audit:
-    """What the chain that orders ask for comes to."""
+    """Whether the chain that an orders file describes will be trusted."""
 
     status: Status
-    # The certificate that breaks the rule, or the order that is refused, counted from 0.
+    # The index of the certificate that breaks the rule, or of the order that is rejected.
     place: int | None = None
     rule: Rule | None = None
     fault: OrderFault | None = None
 
     @property
     def trusted(self) -> bool:
-        """Whether the chain is trusted where its signatures are right."""
+        """Whether the chain will be trusted, if its signatures are valid and each certificate is
+        within the size limit of the validation."""
         return self.status is Status.DONE
 
 
@@ -228,7 +233,7 @@ _Spans = _structure(**{part.name: _Span for part in dataclasses.fields(Parts)})
 _Place = _structure(place=_U64, offset=_U64, number=_U64)
 _Reason = _structure(place=_U64, number=_U64)
 
-# The calls of wurstdrape.h by their arguments, which are words of _TYPES.
+# The functions of wurstdrape.h by their arguments, which are words of _TYPES.
 _CALLS = {
     "octets fault": "wd_is_certificate wd_is_list wd_is_request",
     "octets out": "wd_show_certificate wd_show_list wd_show_request wd_subject wd_issuer "
@@ -260,7 +265,7 @@ _TYPES = {
     "reason": [ctypes.POINTER(_Reason)],
 }
 
-# The shared library: that of WURSTDRAPE_LIBRARY, or the one that lies beside this file.
+# The shared library: the one that WURSTDRAPE_LIBRARY names, or the one in this folder.
 _BESIDE = pathlib.Path(__file__).resolve().with_name("libwurstdrape.so")
 _FILE = pathlib.Path(os.environ.get("WURSTDRAPE_LIBRARY", _BESIDE))
 
@@ -280,12 +285,12 @@ _library = _load(_FILE, _CALLS)
 
 @functools.lru_cache(maxsize=None)
 def _issuing() -> ctypes.CDLL:
-    """Loads the library of the calls that issue, which lies beside the other one."""
+    """Loads the library of the functions that issue, which is in the same folder."""
     return _load(_FILE.with_name("libwurstdrape_issue.so"), _ISSUING_CALLS)
 
 
 def _run(call, *values) -> Status:
-    """Runs a call, which takes octets and texts as a pointer and a number of octets."""
+    """Calls a function, which takes bytes and texts as a pointer and a length."""
     arguments = []
     for value in values:
         if isinstance(value, str):
@@ -299,7 +304,7 @@ def _run(call, *values) -> Status:
 
 
 def _raise_unless_done(status: Status, what: str | Kind, octets: Octets = b"") -> None:
-    """Raises unless a call is done, whose octets should be of a kind, or what is named."""
+    """Raises the error for a status other than DONE. `what` is the kind that was expected."""
     if status is Status.FAULTY and isinstance(what, Kind):
         raise Malformed(what.value, fault_of(octets, what))
     if status is Status.FAULTY:
@@ -311,7 +316,7 @@ def _raise_unless_done(status: Status, what: str | Kind, octets: Octets = b"") -
 
 
 def _written(what: str | Kind, call, *values) -> bytes:
-    """Returns what a call writes. The call is run again where it wants a larger buffer."""
+    """Returns what a function writes. It is called again if it needs a larger buffer."""
     room, length = 4096, _SIZE()
     while True:
         out = ctypes.create_string_buffer(room)
@@ -323,12 +328,12 @@ def _written(what: str | Kind, call, *values) -> bytes:
 
 
 def _of(kind: Kind, name: str):
-    """Returns the call of a kind."""
+    """Returns the function with this name for a kind."""
     return getattr(_library, f"wd_{name}_{kind.value}")
 
 
 def fault_of(der: Octets, kind: Kind = Kind.CERTIFICATE) -> Fault | None:
-    """The first fault of octets that don't encode a value of the kind, or None where they do."""
+    """Returns the first error of decoding a value of the kind, or None if there is none."""
     told = _Fault()
     status = _run(_of(kind, "is"), der, told)
     if status is Status.FAULTY:
@@ -338,27 +343,29 @@ def fault_of(der: Octets, kind: Kind = Kind.CERTIFICATE) -> Fault | None:
 
 
 def show(der: Octets, kind: Kind = Kind.CERTIFICATE) -> str:
-    """The listing, as `cert_desk show` prints it."""
+    """Returns the listing, as `cert_desk show` prints it."""
     return _written(kind, _of(kind, "show"), der).decode()
 
 
 def describe_text(der: Octets, kind: Kind = Kind.CERTIFICATE) -> str:
-    """The description, as `cert_tool describe` prints it. What it says isn't proved."""
+    """Returns the description, as `cert_tool describe` prints it. It isn't proved."""
     return _written(kind, _of(kind, "describe"), der, False).decode()
 
 
 def describe(der: Octets, kind: Kind = Kind.CERTIFICATE) -> dict:
-    """The description as `cert_tool describe --json` prints it, read. What it says isn't proved."""
+    """Returns the description as a dict, decoded from the output of `cert_tool describe --json`.
+
+    It isn't proved."""
     return json.loads(_written(kind, _of(kind, "describe"), der, True))
 
 
 def subject(der: Octets) -> str:
-    """The subject's name (RFC 4514)."""
+    """Returns the subject's name as text (RFC 4514)."""
     return _written(Kind.CERTIFICATE, _library.wd_subject, der).decode()
 
 
 def issuer(der: Octets) -> str:
-    """The issuer's name (RFC 4514)."""
+    """Returns the issuer's name as text (RFC 4514)."""
     return _written(Kind.CERTIFICATE, _library.wd_issuer, der).decode()
 
 
@@ -367,24 +374,24 @@ def _at(der: Octets, span: _Span) -> memoryview:
 
 
 def parts(der: Octets) -> Parts:
-    """Parts, as they stand in the certificate."""
+    """Returns the parts of a certificate. Nothing is copied."""
     spans = _Spans()
     _raise_unless_done(_run(_library.wd_parts, der, spans), Kind.CERTIFICATE, der)
     return Parts(*(_at(der, getattr(spans, name)) for name, _ in spans._fields_))
 
 
 def serial_number(der: Octets) -> int:
-    """The serial number."""
+    """Returns the serial number."""
     return int.from_bytes(parts(der).serial_number, "big", signed=True)
 
 
 def public_key(der: Octets) -> bytes:
-    """The SubjectPublicKeyInfo (RFC 5280 4.1.2.7)."""
+    """Returns the SubjectPublicKeyInfo (RFC 5280 4.1.2.7)."""
     return bytes(parts(der).public_key)
 
 
 def validity(der: Octets) -> Validity:
-    """The first and the last second."""
+    """Returns the validity period."""
     told = _Validity()
     _raise_unless_done(_run(_library.wd_dates, der, told), Kind.CERTIFICATE, der)
     seconds = told.not_before, told.not_after
@@ -392,8 +399,11 @@ def validity(der: Octets) -> Validity:
 
 
 def extension(der: Octets, identifier: str) -> tuple[memoryview, bool] | None:
-    """The content of the first extension of an identifier, as `2.5.29.19`, as it stands in the
-    certificate, and whether it is critical; None where there is none."""
+    """Returns the content of the first extension with an OID (such as `2.5.29.19`), and whether
+    it is critical, or None if there is no such extension.
+
+    A second extension with the same OID, which RFC 5280 4.2 forbids and `verify` rejects, isn't
+    reported."""
     span, critical = _Span(), _BOOL()
     octets = identifier_of_text(identifier)
     status = _run(_library.wd_extension, der, octets, span, critical)
@@ -404,23 +414,23 @@ def extension(der: Octets, identifier: str) -> tuple[memoryview, bool] | None:
 
 
 def name_text(der: Octets) -> str:
-    """The text (RFC 4514) of a name in DER."""
+    """Returns the text (RFC 4514) of a name that is given in DER."""
     return _written("name", _library.wd_name_text, der).decode()
 
 
 def name_of_text(text: str) -> bytes:
-    """The DER of the name that a text says (RFC 4514)."""
+    """Returns the DER of a name that is given as text (RFC 4514)."""
     return _written("text of a name", _library.wd_name_of_text, text)
 
 
 def identifier_text(octets: Octets) -> str:
-    """The dotted text of an identifier's content octets (X.690 8.19)."""
+    """Returns the dotted text of an OID that is given by its content bytes (X.690 8.19)."""
     return _written("identifier", _library.wd_identifier_text, octets).decode()
 
 
 @functools.lru_cache(maxsize=64)
 def identifier_of_text(text: str) -> bytes:
-    """The content octets of the identifier that a dotted text names."""
+    """Returns the content bytes of an OID that is given as dotted text."""
     return _written("dotted text of an identifier", _library.wd_identifier_of_text, text)
 
 
@@ -437,10 +447,11 @@ def _seconds(at: Moment) -> int:
 
 
 def questions(anchors: Several, chain: Several, limit: int = LIMIT) -> list[bytes]:
-    """What the signatures of a chain may ask, a line each, as `cert_tool questions` prints them.
+    """Returns a line for each signature that has to be verified to validate a chain, as
+    `cert_tool questions` prints them.
 
-    The chain is the certificate below an anchor first; anchors are certificates or other trust
-    anchors (RFC 5914)."""
+    The first certificate of the chain is the one that a trust anchor issued. Trust anchors are
+    certificates, or others of RFC 5914."""
     lent = _joined(anchors), _joined(chain), limit
     return _written("chain", _library.wd_questions, *lent).splitlines(keepends=True)
 
@@ -453,10 +464,12 @@ def judge(
     purpose: str = SERVER_AUTH,
     limit: int = LIMIT,
 ) -> Verdict:
-    """The verdict on a chain, where a signature is right exactly where the answers list it.
+    """Validates a chain with the answers of a signature verifier.
 
-    Answers are lines of `questions`. Without `at` the moment is now. Faulty anchors or answers
-    raise `Error`."""
+    `answers` are the lines of `questions` whose signatures the verifier has accepted; all other
+    signatures count as invalid. `at` is the validation time; the default is the present time.
+    Neither host names nor revocation are checked. Raises `Error` if the trust anchors, the answers
+    or the limit are wrong, and `Malformed` if the purpose isn't an OID."""
     told = _Place()
     lent = _joined(answers), _joined(anchors), _joined(chain), _seconds(at)
     status = _run(_library.wd_verify, *lent, identifier_of_text(purpose), limit, told)
@@ -477,11 +490,11 @@ def verify(
     limit: int = LIMIT,
     verifier: typing.Callable[[bytes], bool] | None = None,
 ) -> Verdict:
-    """The verdict on a chain under roots: its questions, their answers, and `judge`.
+    """Validates a chain under roots: calls `questions`, the verifier for each line, and `judge`.
 
-    A verifier says of a line of `questions` whether its signature is right; without one Python's
-    `cryptography` does, and where that isn't installed `ImportError` is raised. A chain whose
-    octets aren't certificates has no questions."""
+    `verifier` returns whether the signature of a line of `questions` is valid. The default uses
+    Python's `cryptography`, and raises `ImportError` if that isn't installed. If the chain isn't a
+    sequence of certificates, the verifier isn't called."""
     roots, chain = _joined(roots), _joined(chain)
     if verifier is None:
         import cryptography  # noqa: F401
@@ -501,28 +514,33 @@ def verify(
 
 
 def signed_part(orders: str, place: int, algorithm: Octets) -> bytes:
-    """What is signed of the certificate at a place of the chain that an orders file asks for, 0 for
-    its root: by this algorithm (an AlgorithmIdentifier in DER), with the key of the certificate
-    above, the root with its own.
+    """Returns the TBSCertificate at an index of the chain that an orders file describes.
 
-    Orders that are faulty or refused, a place that the chain doesn't have, and a faulty algorithm
-    raise `Error`."""
+    The root has index 0. You have to sign these bytes by `algorithm` (an AlgorithmIdentifier in
+    DER): those of the root with its own key, and all others with the key of the order before.
+    Raises `Error` if the orders are malformed or rejected, if the chain has no certificate at this
+    index, or if the algorithm is malformed."""
     return _written("chain", _issuing().wd_signed_part, orders, place, algorithm)
 
 
 def issued(orders: str, place: int, algorithm: Octets, signature: Octets) -> bytes:
-    """That certificate, with this signature of its signed part. Whether it is right isn't looked
-    at."""
+    """Returns the certificate at an index, with `signature` as the signature of its
+    TBSCertificate.
+
+    The signature isn't verified: use `verify` on the whole chain, with its root as trust
+    anchor."""
     return _written("chain", _issuing().wd_issue, orders, place, algorithm, signature)
 
 
 def issue(
     orders: str, algorithm: Octets, sign: typing.Callable[[int, bytes], bytes]
 ) -> list[bytes]:
-    """The certificates that an orders file asks for, the root first, all by one algorithm.
+    """Issues the certificates that an orders file describes, the root first, all by one
+    algorithm.
 
-    `sign` is given the place of the certificate whose key signs, 0 for the root, and what it signs.
-    `verify` judges them under the first one."""
+    `sign` takes the index of the certificate whose key signs (0 for the root) and the bytes to
+    sign, and returns the signature. The signatures aren't verified: use `verify` with the root as
+    trust anchor."""
     certificates: list[bytes] = []
     while True:
         place = len(certificates)
@@ -539,10 +557,12 @@ def issue(
 def audit(
     orders: str, algorithm: Octets, at: Moment = None, purpose: str = SERVER_AUTH
 ) -> Audit:
-    """What the chain that an orders file asks for, signed by this algorithm, comes to under its own
-    root, where its signatures are right: nothing is signed yet. Without `at` the moment is now.
+    """Returns whether the chain that an orders file describes, signed by `algorithm`, will be
+    trusted under its own root, if all its signatures are valid and each certificate is within the
+    size limit of the validation.
 
-    Faulty orders and a faulty algorithm raise `Error`."""
+    Nothing is signed. `at` is the validation time; the default is the present time. Raises `Error`
+    if the orders file or the algorithm is malformed."""
     told = _Reason()
     lent = orders, algorithm, _seconds(at), identifier_of_text(purpose)
     status = _run(_issuing().wd_audit, *lent, told)
