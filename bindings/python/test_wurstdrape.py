@@ -1,8 +1,8 @@
-"""Tests of the Python module, with the module to import (PYTHONPATH, or an installed wheel):
+"""Tests the Python module, which must be on PYTHONPATH or installed:
 
     python3 -m unittest bindings/python/test_wurstdrape.py
 
-What is wanted was told by OpenSSL, or stands in a standard, or is a test vector of a program.
+The expected results are those of OpenSSL, of a standard, or of the test vectors of a program.
 """
 
 import concurrent.futures
@@ -32,7 +32,7 @@ def read(name):
 
 
 class Parts(unittest.TestCase):
-    """What `openssl x509 -text` tells of examples/server.der."""
+    """The expected values are those that `openssl x509 -text` prints for examples/server.der."""
 
     def setUp(self):
         self.der = read("examples/server.der")
@@ -59,7 +59,7 @@ class Parts(unittest.TestCase):
         self.assertIsNone(wurstdrape.extension(self.der, "2.5.29.30"))
 
     def test_parts(self):
-        # where `openssl asn1parse` tells each
+        # the positions that `openssl asn1parse` prints
         parts = wurstdrape.parts(self.der)
         self.assertEqual(parts.signed_part, self.der[4:425])
         self.assertEqual(parts.serial_number, self.der[15:35])
@@ -119,7 +119,7 @@ class Chains(unittest.TestCase):
         self.server = read("examples/server.der")
 
     def test_lists(self):
-        """Certificates and answers may be given one by one."""
+        """Certificates and answers can be passed in lists."""
         answers = wurstdrape.questions([self.root], self.chain)
         chain = [self.chain.removesuffix(self.server), self.server]
         verdict = wurstdrape.judge(answers, [self.root], chain, MOMENT)
@@ -235,7 +235,7 @@ class Threads(unittest.TestCase):
             self.assertEqual(set(pool.map(wurstdrape.subject, ders)), {"CN=desk.example"})
 
 
-# The options of each command that a call of the module answers.
+# The commands for which the module has a function, with the options that it can express.
 OPTIONS = {
     "verify": ("anchors", "answers", "at", "purpose", "limit"),
     "questions": ("anchors", "limit"),
@@ -245,23 +245,23 @@ OPTIONS = {
 
 
 class NoCall(Exception):
-    """No call of the module answers the row."""
+    """No function of the module answers this test vector."""
 
 
 def rows():
-    """Yields words, files, status and output of each row of `cert_tool`, and of each listing among
-    those of `test_cert_rows`."""
+    """Yields the arguments, the files, the status and the output of each test vector of
+    `cert_tool`, and of each listing in those of `test_cert_rows`."""
     for words, files, (status, output, _) in served.rows():
-        # The module takes DER alone; the program takes PEM, too.
+        # The program reads DER and PEM, the module only DER.
         if not any(b"-----BEGIN " in files.get(word, b"") for word in words):
-            # `split` writes bytes that aren't text, and no call of the module answers it.
+            # The output of `split` isn't text, but the module has no function for `split`.
             yield words, files, status, output.decode(errors="replace")
     folder = TOP / "crates" / "test_cert_rows"
     asked, told = ((folder / part).read_text().split("\n") for part in ("stdin", "stdout"))
     for question, answer in zip(asked, told):
         words, parts = question.split(" "), re.fullmatch(r'(\d) (".*") ".*"', answer)
         if words[:2] == ["listing", "show"] and parts:
-            # octets in base 16, perhaps so often, or none
+            # bytes in base 16, with a number of repetitions after `*`, or `-` for none
             digits, _, often = words[3].partition("*")
             octets = b"" if digits == "-" else bytes.fromhex(digits) * int(often or 1)
             output = json.loads(parts[2], strict=False)
@@ -269,7 +269,7 @@ def rows():
 
 
 def options(command, words):
-    """Returns the values of a command's options, and the words that are none."""
+    """Returns the values of a command's options, and its other arguments."""
     given, alone, words = {}, [], iter(words)
     for word in words:
         key = word.removeprefix("--")
@@ -283,7 +283,7 @@ def options(command, words):
 
 
 def verdict_on(given, chain, files):
-    """Returns the status of a chain, and the line of its verdict without the count of calls."""
+    """Returns the status of a chain, and the line of its verdict without `calls=`."""
     at, purpose = given["at"], given.get("purpose", wurstdrape.SERVER_AUTH)
     # The program takes seconds to the year 9999, and names of purposes.
     if not at.isdigit() or int(at) >= 253402300800 or not re.fullmatch(r"[0-9.]+", purpose):
@@ -300,7 +300,7 @@ def verdict_on(given, chain, files):
 
 
 def answer(words, files):
-    """Returns the status and the output that the module has for the words of a program."""
+    """Returns the status and the output of the module for the arguments of a program."""
     given, alone = options(words[0], words[1:])
     match words[0], alone:
         case "verify", [chain]:
@@ -318,7 +318,7 @@ def answer(words, files):
 
 
 class Rows(unittest.TestCase):
-    """What programs answer, of which the test vectors tell."""
+    """The module returns what the test vectors of the programs have."""
 
     def test_rows(self):
         alike = 0
