@@ -1,4 +1,4 @@
--- The logical type of a list, for clauses about the value that a `&mut` reference lends.
+-- The logical type of a list, for clauses about the value behind a `&mut` reference.
 use Rattle.std.specs.Borrow.{RattleType}
 use Rattle.std.specs.contracts.alloc.Global as global
 use Rattle.std.specs.contracts.vec.Vec as vec

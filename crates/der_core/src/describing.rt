@@ -2,7 +2,7 @@
 //! that this description requires:
 //!
 //! - `AsRecord`, a SEQUENCE of fields: `FieldsView`, `DecodeFields` (which decodes a row by
-//!   `read_row!`) and `Rows` (which lends rows by `lend!`).
+//!   `read_row!`) and `Rows` (which passes rows by reference, with `lend!`).
 //! - `AsField<F>`, a type of one field: `From<F>` and `Wraps<F>`.
 //! - `AsOctets`, a content whose bytes a value stores: `FixedTag`, `Primitive`, `Leaf` and
 //!   `Octets`.

@@ -1,4 +1,4 @@
-//! Fields and rows of fields that a record lends (`lend!`).
+//! Fields and rows of fields that a record passes by reference (`lend!`).
 //!
 //! `LentField` has all operations on a borrowed field, and `LentRow` all operations on a row of
 //! them. They have no supertraits. Instead, the impl for each form of field requires traits of the
@@ -30,7 +30,7 @@ use der_core_coding::core_values::{Encode, EncodeValue, FieldRow, FixedTag, Shap
 use der_core_coding::{DefaultValue, EncodeFields, EncodeRef, Explicit, ImplicitRef, WithDefault};
 use std::cmp::Ordering;
 
-/// A field that a record lends.
+/// A field that a record passes by reference.
 pub trait LentField {
     /// The shape of the field.
     ghost shape: { Shape };
@@ -77,7 +77,7 @@ pub trait LentField {
         ensures { StartsWith (begins shape) result (octets_of shape (written self.now)) };
 }
 
-/// A row of fields that a record lends, as nested pairs such as `(A, (B, (C, ())))`.
+/// A row of fields that a record passes by reference, as nested pairs such as `(A, (B, (C, ())))`.
 pub trait LentRow {
     /// The shapes of the fields.
     ghost fields: { Body };

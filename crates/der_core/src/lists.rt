@@ -15,8 +15,8 @@ use der_core_coding::core_head::Error;
 use std::cmp::Ordering;
 
 /// Compares the concatenated encodings of two slices. The first encodings that differ decide, and
-/// then the numbers of values. A result is the order of the encodings even if the values aren't
-/// valid, for example because a number is out of range.
+/// then the numbers of values. For types whose first tags are unambiguous, a result is the order of
+/// the encodings even if the values aren't valid, for example because a number is out of range.
 ///
 /// # Errors
 ///

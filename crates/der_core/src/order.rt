@@ -16,13 +16,14 @@ use std::cmp::Ordering;
 
 /// A type whose values are compared by their contents, which are the bytes after the header.
 pub trait ValueOrd: ShapedValue {
-    /// Compares the contents of two values as lists of bytes, whatever their lengths are. A result
-    /// is the order of the contents even if the values aren't valid, for example because a number
-    /// is out of range.
+    /// Compares the contents of two values as lists of bytes, whatever their lengths are. For types
+    /// whose first tags are unambiguous, a result is the order of the contents even if the values
+    /// aren't valid, for example because a number is out of range.
     ///
     /// # Errors
     ///
-    /// - `Overflow`: the content of one of the two has 2^32 bytes or more.
+    /// - `Overflow`: only if the content of one of the two has 2^32 bytes or more. Such values may
+    ///   also be compared, if a difference before decides.
     fn value_cmp(&self, other: &Self) -> Result<Ordering, Error>
         // If both contents are valid, there is a result.
         ensures order { is_content_apart Self.content ≡ true
@@ -78,13 +79,14 @@ where
 
 /// A type whose values are compared by their whole encodings (X.690 11.6).
 pub trait DerOrd: Shaped {
-    /// Compares the encodings of two values as lists of bytes. It doesn't allocate. A result is the
-    /// order of the encodings even if the values aren't valid, for example because a number is out
-    /// of range.
+    /// Compares the encodings of two values as lists of bytes. It doesn't allocate. For types whose
+    /// first tags are unambiguous, a result is the order of the encodings even if the values aren't
+    /// valid, for example because a number is out of range.
     ///
     /// # Errors
     ///
-    /// - `Overflow`: the encoding of one of the two has 2^32 bytes or more.
+    /// - `Overflow`: only if the encoding of one of the two has 2^32 bytes or more. Such values may
+    ///   also be compared, if a difference before decides.
     fn der_cmp(&self, other: &Self) -> Result<Ordering, Error>
         // If both values are valid, there is a result.
         ensures order { is_apart Self.shape ≡ true → IsValid Self.shape (Self.written self.now)
@@ -108,12 +110,13 @@ pub trait FirstTag: Shaped {
 }
 
 /// Compares the encodings of two contents with these tags: first the headers, and then the
-/// contents. A result is the order of the encodings even if the contents aren't valid, for example
-/// because a number is out of range.
+/// contents. For types whose first tags are unambiguous, a result is the order of the encodings
+/// even if the contents aren't valid, for example because a number is out of range.
 ///
 /// # Errors
 ///
-/// - `Overflow`: one of the two encodings has 2^32 bytes or more.
+/// - `Overflow`: only if one of the two encodings has 2^32 bytes or more. Such values may also be
+///   compared, if a difference before decides.
 pub fn cmp_behind<T: EncodeValue + ValueOrd>(
     tag: Tag,
     value: &T,

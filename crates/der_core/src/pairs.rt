@@ -15,9 +15,9 @@ use std::cmp::Ordering;
 
 /// Fields that are compared one after another.
 pub trait FieldsOrd: FieldRow {
-    /// Compares the concatenated encodings of two rows of fields, as lists of bytes. A result is
-    /// the order of the encodings even if the fields aren't valid, for example because a number is
-    /// out of range.
+    /// Compares the concatenated encodings of two rows of fields, as lists of bytes. For types
+    /// whose first tags are unambiguous, a result is the order of the encodings even if the fields
+    /// aren't valid, for example because a number is out of range.
     ///
     /// # Errors
     ///

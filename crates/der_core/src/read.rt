@@ -1,7 +1,7 @@
 //! Fields and rows of fields that are decoded (`read_row!`).
 //!
-//! As for the fields that a record lends, one trait has the operations on a field and one those on
-//! a row, and neither has supertraits.
+//! As for borrowed fields (`LentField`, `LentRow`), one trait has the operations on a field and one
+//! those on a row, and neither has supertraits.
 
 ghost use Rattle.der_core_coding.specs.CoreHead.Grammar.{plain_option};
 ghost use Rattle.der_core_coding.specs.CoreHead.Reading.{Reads, read_at, read_body_at};

@@ -1,4 +1,4 @@
-//! Records, which are SEQUENCEs of fields (X.690 8.9). A type lends its fields in rows.
+//! Records, which are SEQUENCEs of fields (X.690 8.9). A type passes its fields as borrowed rows.
 
 ghost use Rattle.std.specs.Prelude.{◌≡◌, true, Ok, IfOk, IfErr};
 ghost use Rattle.der_core_coding.specs.CoreHead.declared.tag.Tag.TheVariants.{Sequence};
@@ -120,7 +120,7 @@ pub trait RowUser {
         ensures { answers Row.fields (Row.fields_written row.now) (Row.fields_written other.now)
             self.old self.new result };
 
-    /// Receives two rows that are lent, as `lend!` makes them.
+    /// Receives two borrowed rows, as `lend!` makes them.
     #[inline(always)]
     final fn take_lent<Row: LentRow>(&mut self, row: &Row, other: &Row) -> Self::Answer
         // The clause holds for any values that the rows are known to encode.

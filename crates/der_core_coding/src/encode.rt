@@ -105,7 +105,7 @@ fn append<T: Encode>(value: &T, out: &mut Vec<u8>) -> Result<Length, Error>
 /// vector.
 pub trait ToDer: Encode {
     /// Returns the encoding of the value. It allocates once, for the whole encoding, if the tag has
-    /// one byte.
+    /// one byte (measured; no clause states it).
     ///
     /// # Errors
     ///
@@ -173,7 +173,7 @@ pub trait ToDer: Encode {
     /// Encodes the value after the bytes of a vector, and returns the length of the encoding.
     ///
     /// The earlier bytes are unchanged. After an error, nothing was added. It allocates once, for
-    /// the whole encoding.
+    /// the whole encoding (measured; no clause states it).
     ///
     /// # Errors
     ///

@@ -71,7 +71,7 @@ fn read_front<'a, T: Decode<'a, SliceReader<'a>>>(
 ///
 /// # Errors
 ///
-/// The errors of `from_der`, but `OutOfMemory` only for a type that allocates.
+/// The errors of `from_der`. A type that doesn't allocate never returns `OutOfMemory`.
 #[tactic(auto, unfolding(crate::specs::Opened::read_whole))]
 pub fn leaf_from_der<'a, T: Leaf<'a> + FixedTag>(alloc: Global, bytes: &'a [u8]) -> Result<T, Error>
     ensures exact { Gives (λ v. (T.leaf_plain v, [])) result
@@ -116,11 +116,13 @@ pub trait FromDer<'a>: Decode<'a, SliceReader<'a>> {
         // Accepted bytes are the encoding of the result.
         ensures spelled { is_apart Self.shape ≡ true
             → IfOk result (λ v. Spells Self.shape (Self.plain v) bytes.now) }
-        // An encoding is accepted, unless memory runs out.
+        // If the type is unambiguous and needs at most 64 levels, an encoding is accepted, unless
+        // memory runs out.
         ensures only { (v : Value Self.shape) → is_apart Self.shape ≡ true
             → are_enough Self.shape levels_max ≡ true
             → Spells Self.shape v bytes.now → Gives Self.plain result (Ok v) }
-        // After any error but `OutOfMemory`, the bytes aren't the encoding of any value.
+        // Under the same conditions, the bytes aren't the encoding of any value after any error but
+        // `OutOfMemory`.
         ensures refused { is_apart Self.shape ≡ true → are_enough Self.shape levels_max ≡ true
             → IfErr result (λ e. e.kind ≢ ErrorKind.OutOfMemory
             → (v : Value Self.shape) → Spells Self.shape v bytes.now → ⊥) }

@@ -29,7 +29,7 @@ impl<T: DefaultValue> AsRead for WithDefault<T> {
 }
 
 impl<'a, R: Reader<'a>, T: Decode<'a, R> + Choice + DefaultValue> Decode<'a, R> for WithDefault<T> {
-    // Inlined, because one byte tells that the field is absent.
+    // Inlined, because one byte shows that the field is absent.
     #[inline(always)]
     #[tactic(auto, unfolding(crate::specs::Opened::default_at))]
     fn decode(alloc: Global, reader: &mut R) -> Result<WithDefault<T>, Error> {

@@ -217,29 +217,29 @@ impl From<TryFromIntError> for Error {
 impl fmt::Display for ErrorKind {
     fn fmt<W: fmt::Write>(&self, f: &mut fmt::Formatter<W>) -> fmt::Result {
         let text = match self {
-            ErrorKind::DateTime => "no date from 1970 to 9999",
+            ErrorKind::DateTime => "not a date from 1970 to 9999",
             ErrorKind::EncodingRules => "unknown encoding rules",
-            ErrorKind::Failed => "the reader or writer failed before",
-            ErrorKind::Incomplete => "the octets end too early",
+            ErrorKind::Failed => "the reader or writer failed in an earlier call",
+            ErrorKind::Incomplete => "the bytes end too early",
             ErrorKind::IndefiniteLength => "an indefinite length is not allowed here",
             ErrorKind::Length { tag } => return write!(f, "wrong length of {tag}"),
-            ErrorKind::NestingDepth => "too many levels are open",
+            ErrorKind::NestingDepth => "too many levels of nesting",
             ErrorKind::Noncanonical { tag } => {
                 return write!(f, "{tag} is not in the form that DER allows");
             }
             ErrorKind::OidMalformed => "malformed object identifier",
             ErrorKind::OidUnknown => "unknown object identifier",
             ErrorKind::OutOfMemory => "out of memory",
-            ErrorKind::Overflow => "a length passes 32 bits or falls below zero",
-            ErrorKind::Overlength => "a length has too many octets",
-            ErrorKind::Reader => "the reader can not do this",
-            ErrorKind::SetDuplicate => "a member of a set stands twice",
+            ErrorKind::Overflow => "a length is not from 0 to 4294967295",
+            ErrorKind::Overlength => "a length is too large or has too many bytes",
+            ErrorKind::Reader => "the reader does not support this operation",
+            ErrorKind::SetDuplicate => "a set contains a member twice",
             ErrorKind::SetOrdering => "the members of a set are out of order",
             ErrorKind::TagModeUnknown => "unknown tag mode",
             ErrorKind::TagNumberInvalid => "invalid tag number",
-            ErrorKind::TagUnexpected => "another tag must stand here",
+            ErrorKind::TagUnexpected => "unexpected tag",
             ErrorKind::TagUnknown => "unknown tag",
-            ErrorKind::TrailingData => "octets are left behind the value",
+            ErrorKind::TrailingData => "there are bytes after the value",
             ErrorKind::Utf8 => "the text is not UTF-8",
             ErrorKind::Value { tag } => return write!(f, "wrong value of {tag}"),
         };

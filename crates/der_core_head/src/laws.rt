@@ -34,7 +34,8 @@ pub fn apart_is_lawful()
 
 /// A value that was decoded is valid, and the bytes are its encoding, followed by the remainder.
 ///
-/// This holds for inputs of at most 2^32 - 1 bytes, and for optional values and defaults, too.
+/// This holds for unambiguous shapes and inputs of at most 2^32 - 1 bytes, and for optional values
+/// and defaults, too.
 pub fn read_is_spelled()
     ensures valid { (s : Shape) (room : ℕ) (w : List ℕ) (v : Value s) (r : List ℕ)
         → is_apart s ≡ true
@@ -45,6 +46,8 @@ pub fn read_is_spelled()
 {}
 
 /// The encoding of a valid value decodes to that value and the remainder, whatever follows it.
+///
+/// This holds for each unambiguous shape that has a header and whose levels of nesting suffice.
 #[tactic(auto, using(crate::proofs::Complete::complete_element))]
 pub fn spelled_is_read()
     ensures { (s : Shape) (room : ℕ) (v : Value s) (r : List ℕ) → is_element s ≡ true
@@ -62,8 +65,8 @@ pub fn more_levels_read_alike()
 /// Encoding appends the encoding of the value, whose length is at most the greatest length. The
 /// value is valid if its parts are in their ranges.
 ///
-/// So a value that is too long is rejected, and so is one with a set that isn't in order (X.690
-/// 11.6).
+/// So a value that is too long is rejected. A value in range is also rejected if a set in it isn't
+/// in order (X.690 11.6).
 #[tactic(auto, using(crate::proofs::Written::as_written))]
 pub fn written_is_spelled()
     ensures octets { (s : Shape) (v : Value s) (o z : Out) → write s v o ≡ Ok z
@@ -82,6 +85,8 @@ pub fn valid_is_written()
 
 /// If a value whose parts are in their ranges is encoded, the bytes decode to that value and the
 /// remainder, whatever follows them.
+///
+/// This holds for each unambiguous shape that has a header and whose levels of nesting suffice.
 #[tactic(auto, using(crate::proofs::Written::as_written))]
 pub fn written_is_read()
     ensures { (s : Shape) (room : ℕ) (v : Value s) (o z : Out) (r : List ℕ) → is_element s ≡ true

@@ -64,7 +64,7 @@ impl BytesOwned {
     /// string, or with the end-of-contents bytes of an indefinite length (X.690 8.1.5). After an
     /// error the reader has failed.
     ///
-    /// A `Header` doesn't tell whether the string is in constructed form. Bit 6 of the first byte
+    /// A `Header` doesn't say whether the string is in constructed form. Bit 6 of the first byte
     /// of the encoding does.
     ///
     /// # Errors

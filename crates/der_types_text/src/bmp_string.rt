@@ -48,7 +48,7 @@ impl Model for BmpString {
     ghost invariant = { IsBmpString };
 }
 
-/// Returns whether no pair of bytes is a surrogate.
+/// Returns whether no pair of bytes is half of a surrogate pair (D800 to DFFF).
 fn has_no_half(octets: &[u8]) -> bool
     ensures { result ≡ list_all is_unit (units octets.now) }
 {

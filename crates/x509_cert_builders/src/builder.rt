@@ -6,8 +6,8 @@ use rand_core::CryptoRng;
 use std::alloc::Global;
 use x509_cert_certificates::types::BitString;
 
-/// A builder of a signed value. The bytes that the signer receives are those of the signed part in
-/// the encoding of the result.
+/// A builder of a signed value. The signer receives the encoding of the signed part, and the
+/// encoding of the result contains these bytes.
 pub trait Builder: Sized + Drop {
     ghost use Rattle.std.specs.Prelude.{◌≡◌, ◌⊎◌, ℕ, List, Option, Some, None, IfOk, IfErr, OnOk};
     ghost use Rattle.x509_cert_certificates.specs.Der.BitStrings.{Bits};
@@ -54,8 +54,8 @@ pub trait Builder: Sized + Drop {
     ghost bits: { Self.Output → Bits };
 
     /// Returns the bytes to be signed. The builder keeps the part that they encode for `assemble`.
-    /// What else may change is stated by `is_same_otherwise`; the builders of this crate change
-    /// nothing else. If the call fails, the builder is unchanged.
+    /// `is_same_otherwise` states what else may change. The builders of this crate change nothing
+    /// else. If the call fails, the builder is unchanged.
     ///
     /// A second call for the same signer returns the same bytes. If something is added between the
     /// calls, the second call returns bytes that contain it, too.
@@ -84,8 +84,10 @@ pub trait Builder: Sized + Drop {
         ensures refused { IfErr result (λ e. IsWantOfMemory e
             ⊎ faults self.old (S.public_key signer.now) (S.signs_by signer.now) e) };
 
-    /// Returns the result, which has the part of the last `finalize` and this signature. It
-    /// consumes the builder, and encodes nothing.
+    /// Returns the result: the part of the last `finalize`, with this signature. The builder is
+    /// consumed, and nothing is encoded. The signer doesn't sign. `algorithm_for` states the
+    /// algorithm of the result: for certificates and CRLs, it is that of the last `finalize`; for
+    /// CSRs, it is that of this signer.
     ///
     /// # Errors
     ///

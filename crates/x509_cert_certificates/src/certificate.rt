@@ -87,14 +87,15 @@ impl<P: Profile> CertificateInner<P> {
     ///
     /// # Errors
     ///
-    /// - The first error that decoding encounters.
+    /// - The first error that decoding meets (docs/ENCODING.md).
     /// - `OutOfMemory`: memory runs out.
     pub fn from_der(alloc: Global, bytes: &[u8]) -> Result<CertificateInner<P>, Error>
         // Accepted bytes are the encoding of the certificate.
         ensures spelled { IfOk result
             (λ c. Spells (certificate Bound P.serial_limit) (certificate_plain c)
             bytes.now) }
-        // If the error isn't that memory ran out, the bytes encode no certificate.
+        // After any error but `OutOfMemory`, the bytes aren't the encoding of any certificate,
+        // within the limits of docs/ENCODING.md.
         ensures refused { IfErr result (λ e. e.kind ≢ ErrorKind.OutOfMemory → (c : PlainCertificate)
             → Spells (certificate Bound P.serial_limit) c bytes.now → ⊥) }
         // The value or the error is that of the decoder that the specification defines.
@@ -113,7 +114,7 @@ impl<P: Profile> CertificateInner<P> {
     ///
     /// # Errors
     ///
-    /// - The errors of `to_der`. For a certificate that was decoded, the only one is that memory
+    /// - The errors of `to_der`. If the certificate has an encoding, the only one is that memory
     ///   runs out.
     pub fn hash<D: CertDigest>(&self, alloc: Global) -> Result<Vec<u8>, Error>
         ensures ok { IfOk result (λ d. d.items ≡ D.digest_of (octets_of

@@ -314,8 +314,8 @@ impl<P> TbsCertificateInner<P> {
         self.extensions.as_ref()
     }
 
-    /// Looks up the extension with the OID of `T` and decodes it. Returns whether the extension is
-    /// critical and its value, or `None` if there is no such extension.
+    /// Finds the only extension with the OID of `T`, and decodes its content. Returns whether the
+    /// extension is critical and its value, or `None` if there is no such extension.
     ///
     /// # Examples
     ///

@@ -60,7 +60,7 @@ impl CertReq {
     ///
     /// # Errors
     ///
-    /// - The first error that decoding encounters.
+    /// - The first error that decoding meets (docs/ENCODING.md).
     /// - `OutOfMemory`: memory runs out.
     pub fn try_from_bytes(alloc: Global, bytes: &[u8]) -> Result<CertReq, Error>
         // Accepted bytes are the encoding of the CSR.

@@ -1,3 +1,5 @@
+//! Certificate revocation lists (RFC 5280 5.1).
+
 ghost use Rattle.std.specs.Prelude.{◌≡◌, ◌≢◌, [], IfOk, IfErr, refl};
 ghost use Rattle.der_core.specs.Oid.Bound.{Bound};
 ghost use Rattle.der_core.specs.Grammar.{read_whole};
@@ -63,7 +65,7 @@ impl<P: Profile> CertificateList<P> {
     ///
     /// # Errors
     ///
-    /// - The first error that decoding encounters.
+    /// - The first error that decoding meets (docs/ENCODING.md).
     /// - `OutOfMemory`: memory runs out.
     pub fn from_der(alloc: Global, bytes: &[u8]) -> Result<CertificateList<P>, Error>
         // Accepted bytes are the encoding of the CRL.

@@ -11,8 +11,8 @@ use der_core::oid::{AssociatedOid, ObjectIdentifier};
 use der_core::{Decode, Error, ErrorKind, FromDer, SliceReader};
 use std::alloc::Global;
 
-/// Looks up the extension with the OID of `T` and decodes it. Returns whether the extension is
-/// critical and its value, or `None` if there is no such extension.
+/// Finds the only extension with the OID of `T`, and decodes its content. Returns whether the
+/// extension is critical and its value, or `None` if there is no such extension.
 ///
 /// # Errors
 ///
