@@ -35,8 +35,8 @@ impl Issued {
     ///
     /// # Errors
     ///
-    /// - Memory runs out. The verifier wasn't asked, or was asked only about the first
-    ///   certificates, which keep every rule.
+    /// - Memory runs out. The verifier wasn't asked, or was asked as often as the first
+    ///   certificates need, which keep every rule.
     pub fn audit<J: SignatureJudge>(
         &self,
         alloc: Global,

@@ -6,7 +6,7 @@
 //! - [`show_certificate`], [`show_list`] and [`show_request`] print certificates, CRLs and CSRs.
 //! - [`issue`] issues the chain that orders ask for, and [`orders_in`] parses orders files.
 //! - [`run_check`], [`run_show`] and [`run_orders`] are complete runs over inputs and outputs.
-//!   [`obey`] runs a command line. The program `cert_desk` is [`obey_with_reasons`], which also says
+//!   [`obey`] runs a command line. The program `cert_desk` runs [`obey_with_reasons`], which says
 //!   why an orders file is wrong.
 //! - [`laws`] are facts about every chain, every file of trust anchors and every issued chain.
 //!
@@ -34,8 +34,8 @@
 //! ```
 //!
 //! The crate depends on `cert_desk_checking`, `cert_desk_listing`, `cert_desk_orders` and
-//! `x509_cert_builders`, and passes on the names of theirs that programs need. It may not name the
-//! crates of `cert_tool`.
+//! `x509_cert_builders`, and re-exports those of their names that programs need. It doesn't depend
+//! on the crates of `cert_tool`.
 #![tactic(auto)]
 
 mod accepted;

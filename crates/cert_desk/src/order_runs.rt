@@ -5,8 +5,9 @@ ghost use Rattle.cert_desk.specs.declared.outcome.Outcome.{Outcome};
 ghost use Rattle.cert_desk.specs.Roles.{signers_for};
 ghost use Rattle.cert_desk.specs.Runs.{signer_key, signing_keys, OrdersBecome, FileBecomes};
 ghost use Rattle.cert_desk.specs.Runs.{IsTold, OctetsBecome};
-ghost use Rattle.cert_desk.specs.Explaining.{IsExplained, IsFileExplained, IsTried};
-ghost use Rattle.cert_desk_listing.specs.DeskIo.Whole.{IsWhole, most_octets};
+ghost use Rattle.cert_desk.specs.Explaining.{IsExplained, IsExplainedAfter, IsFileExplained};
+ghost use Rattle.cert_desk.specs.Explaining.{IsTried};
+ghost use Rattle.cert_desk_listing.specs.DeskIo.Whole.{IsUnread, IsWhole, most_octets};
 
 use crate::digest_signer::DigestSigner;
 use crate::issue_error::IssueError;
@@ -67,6 +68,8 @@ fn read<I: Input>(alloc: Global, input: &mut I) -> Result<Vec<u8>, Outcome>
         (source I.takes I.is_ended I.failures input.old input.new) most_octets octets.items) }
     ensures unread { IfErr result (λ outcome. FileBecomes
         (source I.takes I.is_ended I.failures input.old input.new) outcome) }
+    ensures unwhole { IfErr result (λ outcome. (error : ReadAllError)
+        × IsUnread (source I.takes I.is_ended I.failures input.old input.new) most_octets error) }
 {
     match read_all(alloc, input, u32::MAX) {
         Ok(octets) => Ok(octets),
@@ -175,22 +178,33 @@ pub(crate) fn add<E: Output>(err: &mut E, text: &[u8])
     let _ = write_all(err, text);
 }
 
-/// Writes the line that says why an orders file is wrong or its orders are rejected, if a run ended
-/// with this status.
-fn explain<E: Output>(
+/// Writes the line that says why an orders file is wrong or its orders are rejected, if there is
+/// more to say, or that memory ran out.
+fn explain<E: Output>(alloc: Global, octets: &[u8], outcome: &Outcome, err: &mut E)
+    ensures { IsExplained (sink E.gives E.failures err.old err.new) octets.now outcome.now }
+{
+    match reason_of(alloc, octets, outcome) {
+        Ok(Some(text)) => add(err, text.as_bytes()),
+        Ok(None) => {}
+        Err(_) => add(err, b"memory\n"),
+    }
+}
+
+/// Explains an outcome if the run ends with the status of a wrong file or of a rejected order.
+fn explain_after<E: Output>(
     alloc: Global,
     octets: &[u8],
     outcome: &Outcome,
     status: ExitStatus,
     err: &mut E,
 )
-    ensures { IsExplained (sink E.gives E.failures err.old err.new) octets.now outcome.now }
+    ensures { IsExplainedAfter status (sink E.gives E.failures err.old err.new) octets.now
+        outcome.now }
 {
-    if status != ExitStatus::Refused && status != ExitStatus::Arguments {
-        return;
-    }
-    if let Ok(Some(text)) = reason_of(alloc, octets, outcome) {
-        add(err, text.as_bytes());
+    match status {
+        ExitStatus::Refused => explain(alloc, octets, outcome, err),
+        ExitStatus::Arguments => explain(alloc, octets, outcome, err),
+        _ => {}
     }
 }
 
@@ -198,7 +212,8 @@ fn explain<E: Output>(
 ///
 /// After the line of `run_orders`, `err` gets one more line if there is more to say: for a wrong
 /// file, that of `reason_line`, and for a rejected order, `order PLACE line N WORD: ..`. If memory
-/// runs out for that line, or it can't be written, the status is that of `run_orders`.
+/// runs out for that line, it is `memory`. The status is that of `run_orders`, also if that line
+/// can't be written.
 pub fn run_orders_with_reasons<I: Input, O: Output, E: Output>(
     alloc: Global,
     input: &mut I,
@@ -212,7 +227,7 @@ pub fn run_orders_with_reasons<I: Input, O: Output, E: Output>(
         × IsTold (sink O.gives O.failures out.old out.new)
         (sink E.gives E.failures err.old told) outcome result
         × IsFileExplained (source I.takes I.is_ended I.failures input.old input.new)
-        (sink E.gives E.failures told err.new) outcome }
+        (sink E.gives E.failures told err.new) outcome result }
 {
     let octets = match read(alloc, input) {
         Ok(octets) => octets,
@@ -220,6 +235,6 @@ pub fn run_orders_with_reasons<I: Input, O: Output, E: Output>(
     };
     let outcome = find_in(alloc, octets.as_slice());
     let status = tell(alloc, &outcome, out, err);
-    explain(alloc, octets.as_slice(), &outcome, status, err);
+    explain_after(alloc, octets.as_slice(), &outcome, status, err);
     status
 }

@@ -111,7 +111,8 @@ fn issue_with_reasons<I: Input + Drop, F: NamedInputs<I>, O: Output, E: Output>(
         orders.now result
         × IsNameExplained (inputs I.takes I.is_ended I.failures (F.is_opened files.now)
         (F.is_unopened files.now))
-        (sink E.gives E.failures told err.new) orders.now }
+        (sink O.gives O.failures out.old out.new) (sink E.gives E.failures err.old told)
+        (sink E.gives E.failures told err.new) orders.now result }
 {
     match files.open(orders) {
         Ok(mut input) => run_orders_with_reasons(alloc, &mut input, out, err),
@@ -189,7 +190,8 @@ pub fn obey_with_reasons<
         (map string_bytes words.now) result
         × IsCommandExplained (inputs I.takes I.is_ended I.failures (F.is_opened files.now)
         (F.is_unopened files.now))
-        (sink E.gives E.failures told err.new) (map string_bytes words.now) }
+        (sink O.gives O.failures out.old out.new) (sink E.gives E.failures err.old told)
+        (sink E.gives E.failures told err.new) (map string_bytes words.now) result }
 {
     match chain_asked(words) {
         Some(orders) => issue_with_reasons(alloc, files, orders, out, err),

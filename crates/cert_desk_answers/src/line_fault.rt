@@ -37,12 +37,12 @@ impl fmt::Display for LineFault {
             LineFault::NotSixWords => "not six words with one blank between them",
             LineFault::NoPlace => "PLACE isn't decimal digits",
             LineFault::NoAnchor => "ANCHOR is neither decimal digits nor -",
-            LineFault::KeyNotBase16 => "KEY isn't octets in base 16",
+            LineFault::KeyNotBase16 => "KEY isn't in base 16",
             LineFault::NoKey => "KEY is no SubjectPublicKeyInfo in DER",
-            LineFault::AlgorithmNotBase16 => "ALGORITHM isn't octets in base 16",
+            LineFault::AlgorithmNotBase16 => "ALGORITHM isn't in base 16",
             LineFault::NoAlgorithm => "ALGORITHM is no AlgorithmIdentifier in DER",
-            LineFault::SignedNotBase16 => "SIGNED isn't octets in base 16",
-            LineFault::BitsNotBase16 => "BITS isn't octets in base 16",
+            LineFault::SignedNotBase16 => "SIGNED isn't in base 16",
+            LineFault::BitsNotBase16 => "BITS isn't in base 16",
             LineFault::NoBits => "BITS is no BIT STRING in DER",
         };
         f.write_str(text)

@@ -26,8 +26,9 @@ use std::marker::Model;
 /// The result doesn't depend on how the input is cut. The bundle keeps each certificate with its
 /// bytes, and the bytes of a certificate that isn't complete yet, and nothing else.
 ///
-/// Memory is only allocated for bytes that arrived (at most twice as many, or 256 bytes), not for a
-/// length that a header announces. No contract states this; `tests/rows/hostile.py` measures it.
+/// Memory is allocated only for bytes that arrived: at most twice their number, but at least 256
+/// bytes. A length that a header announces allocates nothing. No contract states this;
+/// `tests/rows/hostile.py` measures it.
 #[derive(Drop)]
 pub struct Bundle {
     alloc: Global,

@@ -4,7 +4,8 @@ ghost use Rattle.x509_cert_anchors.specs.Der.Heads.{Fits};
 ghost use Rattle.x509_cert_anchors.specs.AnchorViews.{trust_anchor_plain};
 ghost use Rattle.cert_desk_checking.specs.Anchors.{anchor_plain, given_by};
 ghost use Rattle.cert_desk_checking.specs.AnchorFiles.{IsAnchorFile, raw_choice};
-ghost use Rattle.cert_desk_checking.specs.AnchorReading.{GivesNone, IsNoAnchorFile, IsUngiven};
+ghost use Rattle.cert_desk_checking.specs.AnchorReading.{FailsBy, GivesNone, IsNoAnchorFile};
+ghost use Rattle.cert_desk_checking.specs.AnchorReading.{IsUngiven};
 ghost use Rattle.cert_desk_checking.specs.Files.{GivesAt, StandsAt};
 
 use crate::anchor::Anchor;
@@ -27,8 +28,14 @@ fn faulty(start: usize, fault: AnchorFault) -> AnchorsError
     }
 }
 
-// Decodes the trust anchor that begins at `start`. Returns it and the offset of its end.
-fn choice_at(
+/// Decodes the trust anchor that begins at `start`, with all its fields. Returns it and the offset
+/// of its end.
+///
+/// # Errors
+///
+/// - `BadAnchors`: the bytes at this offset don't begin with a trust anchor (`Malformed`).
+/// - `OutOfMemory`: memory runs out.
+pub fn choice_at(
     alloc: Global,
     octets: &[u8],
     start: usize,
@@ -38,6 +45,7 @@ fn choice_at(
     ensures stands { IfOk result
         (λ p. StandsAt raw_choice octets.now start p.1 (trust_anchor_plain p.0)) }
     ensures none { IfErr result (GivesNone octets.now start) }
+    ensures malformed { IfErr result (FailsBy (λ offset fault. fault ≡ AnchorFault.Malformed)) }
 {
     match TrustAnchorChoice::<Raw>::from_der_partial(alloc, &octets[start..]) {
         Ok((choice, behind)) => Ok((choice, octets.len() - behind.len())),

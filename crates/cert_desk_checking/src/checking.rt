@@ -56,16 +56,17 @@ use x509_cert_anchors::oid::ObjectIdentifier;
 /// - `Refused` otherwise, with the first certificate that breaks a rule, and the first rule that it
 ///   breaks.
 ///
-/// The verifier gets the bytes of the input. It is asked about a certificate only if that
-/// certificate keeps all rules before that of the signature, and never if the input has an error.
+/// The verdict depends on the verifier's answers about the bytes of the input. The verifier is
+/// asked only about certificates that keep all rules before that of the signature, and never if the
+/// input has an error. The contract states how often it is asked, and not with which arguments.
 /// The [crate root](crate) has an example.
 ///
 /// # Errors
 ///
 /// - `Device`: a read of the input had failed.
 /// - `OutOfMemory`: an allocation had failed in the bundle, or failed while the extensions of a
-///   certificate were decoded. In the second case, the verifier was asked about the certificates
-///   before that one, which keep every rule, and about no other.
+///   certificate were decoded. In the second case, the certificates before that one keep every
+///   rule, and the verifier was asked as often as they need.
 pub fn check<J: SignatureJudge>(
     alloc: Global,
     bundle: &Bundle,
@@ -339,7 +340,7 @@ fn takes_room(certificate: &CertificateInner<Raw>, is_last: bool, room: &PathRoo
 
 // Returns the rules that a certificate keeps. The rule on its signature is marked as broken,
 // because the verifier wasn't asked. Updates `room` to the path length that is left after this
-// certificate. Inlined, so that the results are compared where they were computed.
+// certificate. Inlined, so that the caller tests each result right after it is computed.
 #[inline(always)]
 pub(crate) fn rules_kept(
     alloc: Global,

@@ -2,16 +2,17 @@
 //!
 //! - [`check`] validates a chain. [`judge_each`] checks every certificate against every rule, and
 //!   [`reason_of`] explains a broken rule.
-//! - [`anchors_in`] reads a file of trust anchors (RFC 5914).
+//! - [`anchors_in`] reads a file of trust anchors (RFC 5914), and [`choice_at`] reads one of them.
 //! - [`chain_lines`] lists the questions that the signatures of a chain may ask.
-//! - [`run_check`] is a complete run over inputs and outputs.
+//! - [`run_check`] is a complete run over inputs and outputs, and [`find_validated`] is its part
+//!   before the output.
 //! - [`laws`] are facts about every chain and every file of trust anchors.
 //!
 //! Programs use these through the facade `cert_desk`, which has an example.
 //!
 //! The crate depends on `cert_desk_rules` for the rules, and through it on `cert_desk_bundle` and
-//! `cert_desk_io`, and on `x509_cert_anchors` for the encodings of trust anchors. It may not name
-//! the crates that build certificates or print listings.
+//! `cert_desk_io`, and on `x509_cert_anchors` for the encodings of trust anchors. It doesn't
+//! depend on the crates that build certificates or print listings.
 #![tactic(auto)]
 
 mod anchor;
@@ -33,7 +34,7 @@ mod verdict_lines;
 pub use anchor::Anchor;
 pub use anchor_error::AnchorError;
 pub use anchor_fault::AnchorFault;
-pub use anchor_files::anchors_in;
+pub use anchor_files::{anchors_in, choice_at};
 pub use anchors_error::AnchorsError;
 pub use arguments::{limit_in, number_in};
 pub use checking::{check, is_issued_by};
@@ -41,7 +42,7 @@ pub use each_place::judge_each;
 pub use outcome::Outcome;
 pub use question_lines::chain_lines;
 pub use reasons::reason_of;
-pub use running::{find_outcome, read_anchors, read_stream, run_check, status_of};
+pub use running::{find_validated, read_anchors, read_stream, run_check, status_of};
 pub use verdict_lines::{anchors_line, verdict_line};
 
 /// The names of `x509_cert_anchors` that the crates above use.

@@ -1,12 +1,15 @@
 //! A complete run, over any inputs and outputs.
 ghost use Rattle.std.specs.Prelude.{◌≡◌, ◌≢◌, ℕ, ◌<◌, ◌≤◌, List, map, IfOk, IfErr};
 ghost use Rattle.cert_desk_rules.specs.DeskIo.Devices.{sink, source};
+ghost use Rattle.cert_desk_rules.specs.DeskIo.Whole.{IsWhole, most_octets};
 ghost use Rattle.cert_desk_checking.specs.declared.outcome.Outcome.{Outcome};
+ghost use Rattle.cert_desk_checking.specs.declared.outcome.Outcome.TheVariants as outcomes;
 ghost use Rattle.cert_desk_rules.specs.DeskBundle.declared.standing.Standing.{Standing};
+ghost use Rattle.cert_desk_checking.specs.AnchorFiles.{IsAnchorFile};
 ghost use Rattle.cert_desk_checking.specs.Anchors.{anchor_plain, purpose_plain};
 ghost use Rattle.cert_desk_checking.specs.Reading.{IsFed};
 ghost use Rattle.cert_desk_checking.specs.Runs.{HasAnchors, HasNoAnchors, IsOutcome, IsTold};
-ghost use Rattle.cert_desk_checking.specs.Runs.{judging, status_of};
+ghost use Rattle.cert_desk_checking.specs.Runs.{judging, outcome_of, status_of};
 
 use crate::anchor::Anchor;
 use crate::anchor_fault::AnchorFault;
@@ -36,6 +39,40 @@ pub fn read_stream<I: Input>(alloc: Global, limit: u32, input: &mut I) -> Bundle
     bundle
 }
 
+// Reads all bytes of an input of trust anchors.
+fn read_octets<A: Input>(alloc: Global, input: &mut A) -> Result<Vec<u8>, AnchorsError>
+    ensures read { IfOk result (λ octets.
+        IsWhole (source A.takes A.is_ended A.failures input.old input.new) most_octets
+        octets.items) }
+    ensures stopped { IfErr result
+        (HasNoAnchors (source A.takes A.is_ended A.failures input.old input.new)) }
+{
+    match read_all(alloc, input, u32::MAX) {
+        Ok(octets) => Ok(octets),
+        Err(ReadAllError::TooMuch) => Err(AnchorsError::BadAnchors {
+            offset: 0,
+            fault: AnchorFault::Malformed,
+        }),
+        Err(ReadAllError::Device) => Err(AnchorsError::Device),
+        Err(ReadAllError::OutOfMemory) => Err(AnchorsError::OutOfMemory),
+    }
+}
+
+// Reads the trust anchors of an input, and returns them with its bytes.
+fn read_both<A: Input>(alloc: Global, input: &mut A) -> Result<(Vec<u8>, Vec<Anchor>), AnchorsError>
+    ensures read { IfOk result (λ p.
+        IsWhole (source A.takes A.is_ended A.failures input.old input.new) most_octets p.0.items) }
+    ensures anchors { IfOk result (λ p. IsAnchorFile p.0.items (map anchor_plain p.1.items)) }
+    ensures stopped { IfErr result
+        (HasNoAnchors (source A.takes A.is_ended A.failures input.old input.new)) }
+{
+    let octets = read_octets(alloc, input)?;
+    match anchors_in(alloc, octets.as_slice()) {
+        Ok(anchors) => Ok((octets, anchors)),
+        Err(error) => Err(error),
+    }
+}
+
 /// Reads the trust anchors of an input.
 ///
 /// # Errors
@@ -51,24 +88,58 @@ pub fn read_anchors<A: Input>(alloc: Global, input: &mut A) -> Result<Vec<Anchor
     ensures stopped { IfErr result
         (HasNoAnchors (source A.takes A.is_ended A.failures input.old input.new)) }
 {
-    let octets = match read_all(alloc, input, u32::MAX) {
-        Ok(octets) => octets,
-        Err(ReadAllError::TooMuch) => {
-            return Err(AnchorsError::BadAnchors {
-                offset: 0,
-                fault: AnchorFault::Malformed,
-            });
-        }
-        Err(ReadAllError::Device) => return Err(AnchorsError::Device),
-        Err(ReadAllError::OutOfMemory) => return Err(AnchorsError::OutOfMemory),
-    };
-    let anchors = anchors_in(alloc, octets.as_slice())?;
+    let (_, anchors) = read_both(alloc, input)?;
     Ok(anchors)
 }
 
-/// Reads trust anchors from one input and a chain from another, and returns the outcome. If the
-/// trust anchors can't be read, the chain isn't read. `limit` is the size limit of a certificate.
-pub fn find_outcome<A: Input, S: Input, J: SignatureJudge>(
+/// Reads trust anchors from one input and a chain from another, and returns the verdict with the
+/// bytes of the trust anchors and the certificates. If the trust anchors can't be read, the chain
+/// isn't read. `limit` is the size limit of a certificate.
+///
+/// # Errors
+///
+/// The outcomes without a verdict: `BadAnchors`, `Device` and `OutOfMemory`.
+pub fn find_validated<A: Input, S: Input, J: SignatureJudge>(
+    alloc: Global,
+    anchors: &mut A,
+    stream: &mut S,
+    moment: u64,
+    purpose: &ObjectIdentifier<39>,
+    limit: u32,
+    judge: &mut J,
+) -> Result<(Vec<u8>, Bundle, Checked), AnchorsError>
+    requires { 6 ≤ limit }
+    ensures octets { IfOk result (λ p.
+        IsWhole (source A.takes A.is_ended A.failures anchors.old anchors.new) most_octets
+        p.0.items) }
+    ensures fed { IfOk result (λ p.
+        IsFed (source S.takes S.is_ended S.failures stream.old stream.new) p.1) }
+    ensures found { IfOk result (λ p.
+        IsOutcome (source A.takes A.is_ended A.failures anchors.old anchors.new)
+        (source S.takes S.is_ended S.failures stream.old stream.new)
+        (judging J.answers J.questions judge.old judge.new) moment (purpose_plain purpose.now) limit
+        (outcomes.Checked p.2)) }
+    ensures stopped { IfErr result (λ error.
+        IsOutcome (source A.takes A.is_ended A.failures anchors.old anchors.new)
+        (source S.takes S.is_ended S.failures stream.old stream.new)
+        (judging J.answers J.questions judge.old judge.new) moment (purpose_plain purpose.now) limit
+        (outcome_of error)) }
+    ensures kept { J.answers judge.new ≡ J.answers judge.old }
+{
+    let (octets, anchors) = match read_both(alloc, anchors) {
+        Ok(both) => both,
+        Err(error) => return Err(error),
+    };
+    let bundle = read_stream(alloc, limit, stream);
+    match check(alloc, &bundle, &anchors, moment, purpose, judge) {
+        Ok(checked) => Ok((octets, bundle, checked)),
+        Err(CheckError::OutOfMemory) => Err(AnchorsError::OutOfMemory),
+        Err(CheckError::Device) => Err(AnchorsError::Device),
+    }
+}
+
+// Reads trust anchors from one input and a chain from another, and returns the outcome.
+fn find_outcome<A: Input, S: Input, J: SignatureJudge>(
     alloc: Global,
     anchors: &mut A,
     stream: &mut S,
@@ -84,15 +155,9 @@ pub fn find_outcome<A: Input, S: Input, J: SignatureJudge>(
         result }
     ensures kept { J.answers judge.new ≡ J.answers judge.old }
 {
-    let anchors = match read_anchors(alloc, anchors) {
-        Ok(anchors) => anchors,
-        Err(error) => return Outcome::from(error),
-    };
-    let bundle = read_stream(alloc, limit, stream);
-    match check(alloc, &bundle, &anchors, moment, purpose, judge) {
-        Ok(checked) => Outcome::Checked(checked),
-        Err(CheckError::OutOfMemory) => Outcome::OutOfMemory,
-        Err(CheckError::Device) => Outcome::Device,
+    match find_validated(alloc, anchors, stream, moment, purpose, limit, judge) {
+        Ok((_, _, checked)) => Outcome::Checked(checked),
+        Err(error) => Outcome::from(error),
     }
 }
 

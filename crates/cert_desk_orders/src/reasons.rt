@@ -57,7 +57,7 @@ fn wrong_after(
     before: &[Line<'_>],
     line: &Line<'_>,
 ) -> Result<Option<Why>, AllocError>
-    ensures { IfOk result (λ why. why ≡ wrong_after (lines_plain before.now) (line_plain line.now)) }
+    ensures { IfOk result (λ it. it ≡ wrong_after (lines_plain before.now) (line_plain line.now)) }
 {
     if !is_known(line.word) {
         return Ok(Some(wrong_word(line)));

@@ -107,7 +107,7 @@ pub record IsCounted (t : Terms) (limit : ℕ) (stream : List ℕ) (checked : Ch
   pub questions : new_questions ≡ raised old_questions number_asked
 
 -- An allocation failed at a certificate whose extensions may need memory. The certificates before
--- it keep every rule, and the verifier was asked about these only.
+-- it keep every rule, and the verifier was asked as often as they need.
 pub record StopsAsking (t : Terms) (limit : ℕ) (stream : List ℕ) (old new : ℕ) : Type 0 where
   pub certificates : List PlainCertificate
   pub chain : Chain t.bound limit certificates stream

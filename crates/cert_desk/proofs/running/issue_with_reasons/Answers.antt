@@ -8,7 +8,7 @@ returns-in-Ok g c =
     let h = c.run_orders_with_reasons.ensures in (
       h.1,
       inl (c.in-Ok.input, c.run_orders_with_reasons.new.input, c.in-Ok.ensures.opened, (h.0, h.2, h.3)),
-      inr (inr (c.in-Ok.input, c.run_orders_with_reasons.new.input, c.in-Ok.ensures.opened, (h.0, h.2, h.4))),
+      inl (c.in-Ok.input, c.run_orders_with_reasons.new.input, c.in-Ok.ensures.opened, (h.0, h.2, h.3, h.4)),
     )
 
 pub returns-in-Err-Device : goal.returns-in-Err-Device
@@ -22,4 +22,4 @@ returns-in-Err-Device g c =
 pub returns-in-Err-OutOfMemory : goal.returns-in-Err-OutOfMemory
 returns-in-Err-OutOfMemory g c =
     let unopened = rw c.in-Err-OutOfMemory.field-0-is at c.in-Err-OutOfMemory.ensures.unopened in
-    (c.tell_memory.new.err, inr (refl, openings.OutOfMemory, inl unopened, c.tell_memory.ensures.told), inl refl)
+    (c.tell_memory.new.err, inr (refl, openings.OutOfMemory, inl unopened, c.tell_memory.ensures.told), inr (inr (unopened, refl)))

@@ -6,7 +6,7 @@ use Rattle.cert_desk.proofs.running.obey_with_reasons.Goals as goal
 pub returns-in-Some : goal.returns-in-Some
 returns-in-Some g c =
     let h = c.issue_with_reasons.ensures in
-    (h.0, inl (commands.Issue c.in-Some.orders, c.in-Some.ensures.read, (refl, h.1)), inr (c.in-Some.orders.now, c.in-Some.ensures.read, h.2))
+    (h.0, inl (commands.Issue c.in-Some.orders, c.in-Some.ensures.read, (refl, h.1)), inl (c.in-Some.orders.now, c.in-Some.ensures.read, h.2))
 
 pub returns-in-None : goal.returns-in-None
-returns-in-None g c = (c.obey.new.err, c.obey.ensures.obeyed, inl refl)
+returns-in-None g c = (c.obey.new.err, c.obey.ensures.obeyed, inr (c.in-None.ensures.refused, refl))
