@@ -3,14 +3,16 @@
 
     hostile.py FOLDER [NAME...]
 
-FOLDER contains the built programs cert_desk_program, test_der_rows and test_cert_rows. NAME selects
-inputs (default: all). For each input it prints the size in bytes, the processor times for half of
-the input and for all of it (of the fastest of three runs), their quotient, and the peak of resident
-memory, including that of the program, per byte of input. The status is 1 if a quotient is above
-2.6, or if a run exits with an unexpected status. CI doesn't run it; it needs /usr/bin/time.
+FOLDER contains the built programs cert_desk_program, cert_tool, test_der_rows and test_cert_rows.
+NAME selects inputs (default: all). For each input it prints the size in bytes, the processor times
+for half of the input and for all of it (of the fastest of three runs), their quotient, and the peak
+of resident memory, including that of the program, per byte of input. The status is 1 if a quotient
+is above 2.6, or if a run exits with an unexpected status. CI doesn't run it; it needs
+/usr/bin/time.
 """
 
 import argparse
+import base64
 import os
 import pathlib
 import subprocess
@@ -24,8 +26,8 @@ import needs
 
 needs.check(__file__)
 
-from der import algorithm, bits, certificate_part, common_name, date, extension, length
-from der import sequence, tlv
+from der import algorithm, bits, certificate_part, common_name, date, extension, identifier
+from der import integer, length, sequence, tlv, values
 
 MOMENT, PURPOSE = "1009886460", "1.3.6.1.5.5.7.3.1"
 ALGORITHM = algorithm("1.2")
@@ -34,8 +36,8 @@ KEY = sequence(ALGORITHM, bits(b"\0"))
 EMPTY = sequence()
 
 
-def certificate(issuer=EMPTY, extensions=(), signature=b"\0", by=ALGORITHM):
-    part = certificate_part(1, by, issuer, DATES, EMPTY, KEY, extensions)
+def certificate(issuer=EMPTY, extensions=(), signature=b"\0", by=ALGORITHM, subject=EMPTY):
+    part = certificate_part(1, by, issuer, DATES, subject, KEY, extensions)
     return sequence(part, by, bits(signature))
 
 
@@ -49,6 +51,11 @@ def check(stream, anchors=None):
 
 def show(octets):
     return "cert_desk_program", ["show", "certificate", "file"], {"file": octets}
+
+
+def tool(*words, **files):
+    """Returns a run of `cert_tool`. A word that names a file stands for it."""
+    return "cert_tool", list(words), files
 
 
 def listed(relative_names):
@@ -127,6 +134,91 @@ def octet_by_octet(count):
     return "test_cert_rows", [], {"stdin": f"pieces -/{ones}/-/- yes check {asked}".encode()}
 
 
+# The inputs of `cert_tool`.
+
+
+def pem(octets, width=64):
+    text = base64.b64encode(octets)
+    lines = (text[at : at + width] for at in range(0, len(text), width))
+    return b"\n".join([b"-----BEGIN CERTIFICATE-----", *lines, b"-----END CERTIFICATE-----", b""])
+
+
+def described(octets, kind="certificate"):
+    return tool("describe", kind, "file", file=octets)
+
+
+def explained(octets, kind="certificate"):
+    return tool("explain", kind, "file", file=octets)
+
+
+def with_extension(dotted, content):
+    return certificate(extensions=[extension(dotted, content)])
+
+
+def dns_names(count):
+    return with_extension("2.5.29.17", sequence(tlv(0x82, b"a.example") * count))
+
+
+def host(octets):
+    words = ("verify", "--anchors", "anchors", "--answers", "answers", "--at", MOMENT, "--limit",
+             "4294967295", "--host", "b.example", "chain")
+    return tool(*words, anchors=certificate(), answers=answered(octets), chain=octets)
+
+
+def answered(*chain):
+    """Returns the answers of a chain whose issuers have the key and the name of `certificate()`."""
+    lines = []
+    for place, octets in enumerate(chain):
+        part, by, signature = (it for *_, it in values(next(values(octets))[1]))
+        fields = (KEY, by, part, signature)
+        issuer = "-" if place else "0"
+        lines.append(" ".join([str(place), issuer, *(it.hex().upper() for it in fields)]))
+    return "".join(f"{it}\n" for it in lines).encode()
+
+
+def below(count, *command):
+    """Returns a run over a chain of CAs, of which all but the first two are too many."""
+    names = [EMPTY, *(sequence(members([str(it)])) for it in range(count))]
+    mark, chain = tlv(0x01, b"\xff"), []
+    for place, (issuer, subject) in enumerate(zip(names, names[1:])):
+        limits = extension("2.5.29.19", sequence(mark, integer(1 if place == 0 else 255)), True)
+        chain.append(certificate(issuer, [limits], subject=subject))
+    words = ("--anchors", "anchors", "--answers", "answers", "--at", MOMENT, "--strict", "chain")
+    return tool(*command, *words, anchors=certificate(), answers=answered(*chain),
+                chain=b"".join(chain))
+
+
+def entries(count, extensions=()):
+    """Returns a CRL with so many entries, each with these extensions."""
+    each = [sequence(*extensions)] if extensions else []
+    number = (integer(it) for it in range(1, count + 1))
+    revoked = (sequence(it, date("020101120100Z"), *each) for it in number)
+    part = sequence(integer(1), ALGORITHM, EMPTY, date("020101120100Z"), sequence(*revoked))
+    return sequence(part, ALGORITHM, bits(b"\0"))
+
+
+def request(count):
+    """Returns a CSR with so many attributes."""
+    attributes = sorted(sequence(identifier(f"1.2.{it}"), tlv(0x31)) for it in range(count))
+    part = sequence(integer(0), EMPTY, KEY, tlv(0xA0, *attributes))
+    return sequence(part, ALGORITHM, bits(b"\0"))
+
+
+def policies(count):
+    listed = (sequence(identifier(f"1.2.{it}")) for it in range(count))
+    return with_extension("2.5.29.32", sequence(*listed))
+
+
+def purposes(count):
+    return with_extension("2.5.29.37", sequence(*(identifier(f"1.2.{it}") for it in range(count))))
+
+
+def identified(octets):
+    return certificate(by=sequence(tlv(0x06, octets)))
+
+
+REASON = extension("2.5.29.21", tlv(0x0A, b"\x01"))
+
 # The larger count of each input, how it is made of a count, and the statuses that are expected.
 INPUTS = {
     "certificates": (70_000, lambda n: check(authority(1300) * n), {0, 1}),
@@ -149,6 +241,65 @@ INPUTS = {
     "orders": (10_000, lambda n: orders(ROOT, *["CN=s"] * (n - 1)), {0, 1}),
     "falling members": (10_000, falling, {0}),
     "byte by byte": (1_000_000, octet_by_octet, {0}),
+    "PEM": (20_000, lambda n: described(pem(authority(1300)) * n, "stream"), {0}),
+    "PEM, split": (20_000, lambda n: tool("split", "f", f=pem(authority(100)) * n), {0}),
+    "PEM, reversed": (20_000, lambda n: tool("reverse", "f", f=pem(authority(100)) * n), {0}),
+    "PEM, explained": (20_000, lambda n: explained(pem(authority(100)) * n, "stream"), {0}),
+    "PEM, one line": (4_000_000, lambda n: explained(pem(bytes(n), 10**9)), {0}),
+    "PEM, a character a line": (1_000_000, lambda n: explained(pem(bytes(n * 3 // 4), 1)), {0}),
+    "PEM, empty blocks": (70_000, lambda n: explained(pem(b"") * n, "stream"), {0}),
+    "PEM, text": (4_000_000, lambda n: explained(b"a\n" * (n // 2) + pem(certificate())), {0}),
+    "PEM, a line of text": (4_000_000, lambda n: explained(b"a" * n + b"\n" + pem(certificate())),
+                            {0}),
+    "PEM, blanks": (4_000_000, lambda n: explained(b" " * n + pem(certificate())), {0}),
+    "PEM, blanks and dashes": (4_000_000, lambda n: explained(b" -" * (n // 2) + b"\n"), {0}),
+    "PEM, empty lines": (4_000_000, lambda n: explained(b"\n" * n + pem(certificate())), {0}),
+    "PEM, carriage returns": (4_000_000, lambda n: explained(b"\r" * n), {0}),
+    "PEM, one label": (4_000_000, lambda n: explained(b"-----BEGIN " + b"A" * n + b"-----\n"), {2}),
+    "PEM, not a boundary": (300_000, lambda n: explained(b"-----BEGIN A\n" * n), {0}),
+    "extensions described": (100_000, lambda n: described(extended(
+        f"1.2.{it}" for it in range(n))), {0}),
+    "extensions explained": (100_000, lambda n: explained(extended(
+        f"1.2.{it}" for it in range(n))), {0}),
+    "equal extensions explained": (100_000, lambda n: explained(extended(["1.2.1"] * n)), {0}),
+    "alternative names described": (300_000, lambda n: described(dns_names(n)), {0}),
+    "alternative names explained": (300_000, lambda n: explained(dns_names(n)), {0}),
+    "alternative names as hosts": (300_000, lambda n: host(dns_names(n)), {1}),
+    "relative names described": (100_000, lambda n: described(certificate(sequence(
+        members(["a"]) * n))), {0}),
+    "relative names explained": (100_000, lambda n: explained(certificate(sequence(
+        members(["a"]) * n))), {0}),
+    "members described": (100_000, lambda n: described(certificate(sequence(
+        members(map(str, range(n)))))), {0}),
+    "members explained": (100_000, lambda n: explained(certificate(sequence(
+        members(map(str, range(n)))))), {0}),
+    "text escaped": (1_000_000, lambda n: described(certificate(sequence(
+        members(["\n" * n])))), {0}),
+    "entries described": (100_000, lambda n: described(entries(n), "list"), {0}),
+    "entries explained": (100_000, lambda n: explained(entries(n), "list"), {0}),
+    "entries with extensions": (50_000, lambda n: described(entries(n, [REASON]), "list"), {0}),
+    "entries with remarks": (50_000, lambda n: explained(entries(n, [REASON] * 2), "list"), {0}),
+    "attributes described": (100_000, lambda n: described(request(n), "request"), {0}),
+    "attributes explained": (100_000, lambda n: explained(request(n), "request"), {0}),
+    "policies described": (100_000, lambda n: described(policies(n)), {0}),
+    "policies explained": (100_000, lambda n: explained(policies(n)), {0}),
+    "purposes described": (100_000, lambda n: described(purposes(n)), {0}),
+    "purposes explained": (100_000, lambda n: explained(purposes(n)), {0}),
+    "one identifier": (4_000_000, lambda n: explained(identified(b"\x81" * (n - 1) + b"\1")), {0}),
+    "identifier of many arcs": (4_000_000, lambda n: explained(identified(b"\1" * n)), {0}),
+    "identifier, described": (2_000_000, lambda n: described(with_extension(
+        "1.2.3", tlv(0x06, b"\x81" * (n - 1) + b"\1"))), {0}),
+    "identifier of arcs, described": (2_000_000, lambda n: described(with_extension(
+        "1.2.3", tlv(0x06, b"\1" * n))), {0}),
+    "large signature": (4_000_000, lambda n: described(certificate(signature=bytes(n))), {0}),
+    "headers described": (500_000, lambda n: described(headers(n)), {0}),
+    "headers explained": (500_000, lambda n: explained(headers(n)), {0}),
+    "anchors explained": (50_000, lambda n: tool(
+        "explain", "anchors", "f", f=certificate() * n), {0}),
+    "long chain": (10_000, lambda n: below(n, "verify"), {1}),
+    "long chain explained": (10_000, lambda n: below(n, "explain", "chain"), {0}),
+    "questions": (50_000, lambda n: tool("questions", "--anchors", "a", "f", a=certificate(),
+                                         f=certificate() * n), {0}),
 }
 
 

@@ -3,9 +3,10 @@
 
     pipes.py TOOL
 
-It compares the status and the error output of runs whose file is missing, forbidden or a folder, or
-whose output is closed, full, or read by a program that ends. The errors of the system are those
-that Python's `os.strerror` returns for the same error. The status is 1 if any run differs.
+It compares the status and the error output of runs whose file is missing, forbidden, a folder,
+without an end, or has a name that isn't UTF-8, or whose output is closed, full, or read by a
+program that ends. The errors of the system are those that Python's `os.strerror` returns for the
+same error. The status is 1 if any run differs.
 """
 
 import errno
@@ -19,6 +20,11 @@ import tempfile
 sys.path.insert(0, str(pathlib.Path(__file__).resolve().parents[1]))
 
 from tool import files
+
+NOT_UTF8 = (
+    "an argument isn't UTF-8; to read a file with such a name, give `-`, and redirect standard "
+    "input\n"
+)
 
 # The memory of a run that reads a device without an end.
 LIMIT = 1 << 29
@@ -91,6 +97,12 @@ def check(runs):
     runs.check([*describe, "/dev/zero"],
                (2, '"/dev/zero" isn\'t DER, and has more than 67108864 bytes\n'),
                preexec_fn=limited)
+    runs.check([*describe, b"caf\xe9.der"], (4, NOT_UTF8))
+    endless = subprocess.Popen(["cat", "server.der", "/dev/zero"], stdout=subprocess.PIPE)
+    runs.check([*describe, "-"], (2, "octet 510: there are bytes after the value\n"),
+               stdin=endless.stdout, preexec_fn=limited)
+    endless.stdout.close()
+    endless.wait()
 
 
 def main():

@@ -42,7 +42,7 @@ def text(lines):
 
 
 def written(lines):
-    """Returns the output that these lines stand for."""
+    """Returns the output that these lines mean."""
     is_octets = len(lines) == 1 and re.fullmatch("(?:[0-9a-f]{2})+", lines[0])
     return bytes.fromhex(lines[0]) if is_octets else text(lines)
 

@@ -71,7 +71,8 @@ demand_result_text json unjudged cs (outcomes.Ends place) calls =
 
 -- The text is written to the output, and the status is that of the result.
 abbrev pub IsDemandResultReported : Device → Device → List ℕ → DemandResult → Status → Type 0
-IsDemandResultReported out err text outcomes.Met answer = Exits (IsAnswer out err text statuses.Done) answer
+IsDemandResultReported out err text outcomes.Met answer =
+    Exits (IsAnswer out err text statuses.Done) answer
 IsDemandResultReported out err text (outcomes.Unmet unmet) answer =
     Exits (IsAnswer out err text statuses.Refused) answer
 IsDemandResultReported out err text (outcomes.Ends place) answer =
@@ -102,6 +103,6 @@ IsReportedWith unjudged terms answers octets cs out err checked answer =
 abbrev pub IsChainReported : Terms → Answers → List ℕ → List PlainCertificate → Device → Device
     → Checked → Status → Type 0
 IsChainReported terms answers octets cs out err checked answer =
-    ((unjudged : List ℕ) × IsUnjudgedIf terms.is_json octets cs unjudged
+    ((unjudged : List ℕ) × IsUnjudgedIf terms.is_json terms.demands.is_strict octets cs unjudged
     × IsReportedWith unjudged terms answers octets cs out err checked answer)
     ⊎ (Untouched out × Exits (IsMemoryTold err) answer)

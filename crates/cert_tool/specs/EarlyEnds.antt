@@ -41,8 +41,8 @@ stop_of b = stop_under b.standing b.certificates
 abbrev pub FedWithin : Device → ℕ → Kept → Type 0
 FedWithin stream limit b = (b.limit ≡ limit) × IsFed stream b
 
--- The error output reports what ended the run, and the status is that of the outcome. If memory runs
--- out for the message, only that is reported.
+-- The error output reports what ended the run, and the status is that of the outcome. If memory
+-- runs out for the message, only that is reported.
 abbrev pub IsOutcomeReported : Device → Outcome → ExitStatus → Type 0
 IsOutcomeReported err (outcomes.Checked checked) answer =
     IsComplaint err (line_of checked.verdict checked.calls) (status_of checked.verdict) answer

@@ -51,8 +51,8 @@ abbrev pub IsUnreadReported : Device → Device → ExitStatus → Type 0
 IsUnreadReported input err answer =
     (error : ReadAllError) × IsUnread input most_octets error × IsReadErrorReported err error answer
 
--- The status of an explanation: done, or refused if remarks are to fail the run. If they are, it is
--- done only for valid input.
+-- The status of an explanation: `Done`, or `Refused`, which occurs only with `--fail-on-remark`
+-- (`fails`). With it, the status is `Done` only for valid input.
 abbrev pub IsStatusBy : Bool → Type 0 → ExitStatus → Type 0
 IsStatusBy fails Valid status =
     ((status ≡ statuses.Done) × (fails ≡ true → Valid))
@@ -75,7 +75,8 @@ IsOutcomeExplained err outcomes.Device answer = IsDeviceTold err answer
 IsOutcomeExplained err outcomes.OutOfMemory answer = IsMemoryTold err answer
 
 -- The result of checking the demands on a chain; without demands, they are met.
-abbrev pub IsDemandResultIf : Bool → Terms → Answers → List ℕ → List PlainCertificate → DemandResult → Type 0
+abbrev pub IsDemandResultIf : Bool → Terms → Answers → List ℕ → List PlainCertificate
+    → DemandResult → Type 0
 IsDemandResultIf true terms answers octets cs held =
     IsDemandResult terms.demands answers terms.moment terms.purpose cs octets held
 IsDemandResultIf false terms answers octets cs held = held ≡ forms.Met
@@ -86,8 +87,8 @@ KeepsEachRule terms answers given cs = (place : ℕ) (rule : Rule)
     → keeps_at rule (run_terms given terms.moment (purpose_plain terms.purpose) answers) cs
     (joined Bound cs) place ≡ true
 
--- Some text is written to the output. The status is that of the demands, or refused if remarks are
--- to fail the run. If they are, it is that of the demands only for a valid chain.
+-- Some text is written to the output. The status is that of the demands, or `Refused` because of
+-- `--fail-on-remark` (`fails`). With it, it is that of the demands only for a valid chain.
 abbrev pub IsDemandResultWritten : Bool → Type 0 → Device → Device → DemandResult → Status → Type 0
 IsDemandResultWritten fails Valid out err held answer =
     ((fails ≡ true → Valid) × ((text : List ℕ) × IsDemandResultReported out err text held answer))
@@ -100,8 +101,8 @@ abbrev pub IsChainTextWritten : Terms → Answers → List ℕ → List PlainAnc
     → Device → Device → Status → Type 0
 IsChainTextWritten terms answers octets given cs out err answer =
     ((held : DemandResult) × IsDemandResultIf (are_made terms.demands) terms answers octets cs held
-    × IsDemandResultWritten terms.fails_on_remark (KeepsEachRule terms answers given cs) out err held
-    answer)
+    × IsDemandResultWritten terms.fails_on_remark (KeepsEachRule terms answers given cs) out err
+    held answer)
     ⊎ (Untouched out × Exits (IsMemoryTold err) answer)
 
 -- What is reported after the stream was read: an explanation of its chain, or what ended the run.
@@ -113,8 +114,8 @@ IsStreamResultExplained (Some outcome) terms answers octets given cs out err ans
     Untouched out × Exits (IsOutcomeExplained err outcome) answer
 
 -- The stream is read. Its chain is explained, or it is reported why there is none.
-abbrev pub IsStreamExplained : List ℕ → List PlainAnchor → Device → Device → Device → Terms → Answers
-    → Status → Type 0
+abbrev pub IsStreamExplained : List ℕ → List PlainAnchor → Device → Device → Device → Terms
+    → Answers → Status → Type 0
 IsStreamExplained octets given stream out err terms answers answer =
     (kept : Kept) × FedWithin stream terms.limit kept
     × IsStreamResultExplained (stop_of kept) terms answers octets given kept.certificates out err

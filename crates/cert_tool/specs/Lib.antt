@@ -2,6 +2,7 @@ pub mod ParsedArguments
 pub mod Tasks
 pub mod NamedFiles
 pub mod EarlyEnds
+pub mod OneValue
 pub mod Statuses
 pub mod QuestionRuns
 pub mod EndEntities

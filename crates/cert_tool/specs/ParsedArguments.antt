@@ -146,7 +146,8 @@ is_option word = bytes_eq (take 2 word) (codes "--")
 
 -- The arguments with an option that has its value after `=`; if there is no such option, it is
 -- unknown.
-abbrev pub with_pair : Option Key → List ℕ → PlainArguments → Result PlainArguments PlainArgumentError
+abbrev pub with_pair : Option Key → List ℕ → PlainArguments
+    → Result PlainArguments PlainArgumentError
 with_pair (Some key) word g =
     if is_some (value_of key g) then Err (twice key)
     else Ok (with_value key (after_first is_equals word) g)
@@ -155,7 +156,8 @@ with_pair None word g =
 
 -- The arguments with an option, which may have its value after `=` or in the next argument. An
 -- option that is given twice is an error.
-abbrev pub with_key : Option Key → List ℕ → PlainArguments → Result PlainArguments PlainArgumentError
+abbrev pub with_key : Option Key → List ℕ → PlainArguments
+    → Result PlainArguments PlainArgumentError
 with_key (Some key) word g =
     if is_some (value_of key g) then Err (twice key)
     else if takes_no_value key then Ok (with_value key word g)
@@ -177,7 +179,8 @@ ended_by (Some key) g = Err (no_value key)
 ended_by None g = Ok g
 
 -- The arguments with these arguments after them, or the first error.
-abbrev pub read_on : Result PlainArguments PlainArgumentError → List (List ℕ) → Result PlainArguments PlainArgumentError
+abbrev pub read_on : Result PlainArguments PlainArgumentError → List (List ℕ)
+    → Result PlainArguments PlainArgumentError
 read_on (Err fault) words = Err fault
 read_on (Ok g) [] = ended_by g.awaited g
 read_on (Ok g) (word ∷ words) = read_on (step g word) words
@@ -216,6 +219,7 @@ error_plain (faults.NoValue key) = no_value key
 error_plain (faults.Surplus word) = surplus word.now
 
 -- The abstract value of the result of parsing arguments.
-abbrev pub given_read : Result ParsedArguments ArgumentError → Result PlainArguments PlainArgumentError
+abbrev pub given_read : Result ParsedArguments ArgumentError
+    → Result PlainArguments PlainArgumentError
 given_read (Ok g) = Ok (arguments_plain g)
 given_read (Err fault) = Err (error_plain fault)

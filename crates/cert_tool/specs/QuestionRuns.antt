@@ -34,4 +34,5 @@ AreQuestionsFound anchors_in stream limit (Err outcome) =
 -- output.
 abbrev pub AreQuestionsReported : Device → Device → Result (List ℕ) Outcome → ExitStatus → Type 0
 AreQuestionsReported out err (Ok text) answer = IsAnswer out err text statuses.Done answer
-AreQuestionsReported out err (Err outcome) answer = Untouched out × IsOutcomeReported err outcome answer
+AreQuestionsReported out err (Err outcome) answer =
+    Untouched out × IsOutcomeReported err outcome answer

@@ -32,7 +32,8 @@ request_limit = 64 * 2 ^ 20
 abbrev pub request_inputs : List ℕ → Inputs
 request_inputs parts =
     inputs (λ a octets b. octets_left a ≡ octets ++ octets_left b) HasEnded read_failures
-    (λ name input. IsInputOf name (octets_left input) parts) (λ name error. HasNoInput name parts error)
+    (λ name input. IsInputOf name (octets_left input) parts)
+    (λ name error. HasNoInput name parts error)
 
 -- The lines of a text, which are the arguments of a request.
 abbrev pub argument_lines : List ℕ → List (List ℕ)
@@ -127,7 +128,8 @@ IsNextFailed tells input output error =
 abbrev pub IsServingErrorReported : Device → FrameError → ExitStatus → Type 0
 IsServingErrorReported err errors.TooLong status =
     IsComplaint err (codes "too long\n") statuses.Faulty status
-IsServingErrorReported err errors.Cut status = IsComplaint err (codes "cut\n") statuses.Faulty status
+IsServingErrorReported err errors.Cut status =
+    IsComplaint err (codes "cut\n") statuses.Faulty status
 IsServingErrorReported err errors.Device status = IsDeviceTold err status
 IsServingErrorReported err errors.OutOfMemory status = IsMemoryTold err status
 

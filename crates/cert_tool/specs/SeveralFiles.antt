@@ -35,8 +35,8 @@ options_in false (word ∷ words) =
     if is_option word then word ∷ options_in (is_some (valued_key word)) words
     else options_in false words
 
--- The arguments of `describe` for several files: the options, and then the kind and the files. There
--- are none if there are fewer than two files.
+-- The arguments of `describe` for several files: the options, and then the kind and the files.
+-- There are none if there are fewer than two files.
 abbrev pub with_files : List (List ℕ) → List (List ℕ) → Option (List (List ℕ) × List (List ℕ))
 with_files options words = if nat_lt (length words) 3 then None else Some (options, words)
 
@@ -64,7 +64,7 @@ several_plain s = (map (λ word. word.now) s.options.items, map (λ word. word.n
 abbrev pub for_file : List (List ℕ) → List ℕ → List ℕ → List (List ℕ)
 for_file options kind file = codes "describe" ∷ kind ∷ file ∷ options
 
--- A heading, of which no clause says the text, is written. If that fails, it is reported.
+-- A heading is written. No clause states its text. If that fails, it is reported.
 abbrev pub IsHeaded : Device → Device → ExitStatus → Type 0
 IsHeaded out err answer =
     ((text : List ℕ) × IsAnswer out err text statuses.Done answer)
@@ -111,8 +111,8 @@ AreFilesRun tells i out err options kind (file ∷ files) answer =
     × (((is_misuse first ≡ true) × (o ≡ out.new) × (e ≡ err.new)
     × (answer ≡ first))
     ⊎ ((is_misuse first ≡ false) × (second : Status)
-    × AreFilesRun tells i (record out { old = o }) (record err { old = e }) options kind files second
-    × (answer ≡ first_error first second)))
+    × AreFilesRun tells i (record out { old = o }) (record err { old = e }) options kind files
+    second × (answer ≡ first_error first second)))
 
 -- The files after the kind are described in turn.
 abbrev pub AreKindRun : Clock → Inputs → Device → Device → List (List ℕ) → List (List ℕ) → Status

@@ -82,7 +82,8 @@ IsListed json out err b answer =
     × IsAnswer out (record err { new = between }) (places_text json b.certificates) statuses.Done
     first
     × (((first ≢ statuses.Done) × (answer ≡ first) × Untouched (record err { old = between }))
-    ⊎ ((first ≡ statuses.Done) × IsEarlyEndReported (record err { old = between }) (stop_of b) answer)))
+    ⊎ ((first ≡ statuses.Done)
+    × IsEarlyEndReported (record err { old = between }) (stop_of b) answer)))
 
 -- The bytes of the certificate are written. If there is no certificate at the index, it is reported
 -- what ended the stream, or that no certificate has the index.

@@ -38,6 +38,7 @@ use Rattle.cert_tool.specs.QuestionRuns.{AreQuestionsFound, AreQuestionsReported
 use Rattle.cert_tool.specs.Explaining.{IsExplained, IsUnreadReported, IsTextWritten}
 use Rattle.cert_tool.specs.Help.{program_text}
 use Rattle.cert_tool.specs.NamedFiles.{IsOneUnusable, Named, OnNamedFile}
+use Rattle.cert_tool.specs.OneValue.{IsReadIf}
 use Rattle.cert_tool.specs.DemandReports.{IsChainReported}
 use Rattle.cert_tool.specs.DescribedStreams.{IsDescribedStream}
 use Rattle.cert_tool.specs.Splitting.{IsEarlyEndReported, IsListed, IsReversed, IsTaken}
@@ -142,7 +143,8 @@ IsFoundReported anchors stream judge out err terms answer =
     × IsOutcome anchors stream judge terms.moment (purpose_plain terms.purpose) terms.limit
     (outcomes.Checked checked)
     × IsWhole anchors most_octets octets × IsFed stream kept
-    × IsChainReported terms (judge.answers judge.old) octets kept.certificates out err checked answer)
+    × IsChainReported terms (judge.answers judge.old) octets kept.certificates out err checked
+    answer)
     ⊎ ((error : AnchorsError)
     × IsOutcome anchors stream judge terms.moment (purpose_plain terms.purpose) terms.limit
     (outcome_of error)
@@ -155,8 +157,8 @@ IsValidated answers anchors stream out err terms answer =
     ((listing : List Question) × (old_judge : AnswersJudge) × (new_judge : AnswersJudge)
     × AreAnswers answers (Ok listing)
     × (judge_answers old_judge ≡ only_yes_to listing) × (judge_questions old_judge ≡ 0)
-    × IsFoundReported anchors stream (judging judge_answers judge_questions old_judge new_judge) out err
-    terms answer)
+    × IsFoundReported anchors stream (judging judge_answers judge_questions old_judge new_judge) out
+    err terms answer)
     ⊎ ((none : NoAnswers) × AreAnswers answers (Err none) × Untouched anchors × Untouched stream
     × Untouched out × Exits (IsMissingAnswersReported err none) answer)
 
@@ -164,7 +166,8 @@ IsValidated answers anchors stream out err terms answer =
 abbrev pub IsVerified : Clock → Inputs → Device → Device → Task → Status → Type 0
 IsVerified tells i out err task answer =
     OnChainFiles tells i out err task answer (λ answers anchors stream seconds.
-    OnFirstPart err (λ told. IsValidated answers anchors stream out told (terms_at task seconds) answer))
+    OnFirstPart err (λ told. IsValidated answers anchors stream out told (terms_at task seconds)
+    answer))
 
 -- The effect of `explain chain`.
 abbrev pub IsChainExplained : Clock → Inputs → Device → Device → Task → Status → Type 0
@@ -218,7 +221,7 @@ wanted_of (commands.Explain kind) = of_kind kind
 wanted_of commands.ExplainAnchors = wanted.Anchors
 wanted_of _ = wanted.Certificates
 
--- The task's file, of which a command reads all bytes.
+-- The task's file, which a command reads before it writes anything.
 abbrev pub whole_file : Task → Named
 whole_file task = (wanted_of task.command, task.file.now)
 
@@ -228,12 +231,20 @@ IsUnreadable i file err answer =
     OnNamedFile i file (λ input. OnFirstPart err (λ told. IsUnreadReported input told answer))
     ⊎ IsUnusableReported i (file ∷ []) err answer
 
--- The task's file is read to its end, and this holds for its bytes and for the remaining run of the
--- error output; or it can't be read, which is reported, and nothing is written to the output.
+-- The command takes a file that should be one value.
+abbrev pub takes_one : Command → Bool
+takes_one (commands.Describe kind) = true
+takes_one (commands.Explain kind) = true
+takes_one _ = false
+
+-- The task's file is read, to its end unless many bytes follow its only value, and this holds for
+-- the bytes and for the remaining run of the error output; or it can't be read, which is reported,
+-- and nothing is written to the output.
 abbrev pub OnWholeFile : Inputs → Device → Device → Task → ExitStatus → (List ℕ → Device → Type 0)
     → Type 0
 OnWholeFile i out err task answer Holds =
-    ((octets : List ℕ) × OnNamedFile i (whole_file task) (λ input. IsWhole input most_octets octets)
+    ((octets : List ℕ)
+    × OnNamedFile i (whole_file task) (λ input. IsReadIf (takes_one task.command) input octets)
     × OnLastPart err (Holds octets))
     ⊎ (Untouched out × IsUnreadable i (whole_file task) err answer)
 
@@ -259,7 +270,8 @@ IsCommandRun commands.Verify tells i out err task answer = IsVerified tells i ou
 IsCommandRun commands.Questions tells i out err task answer =
     Exits (AreQuestionsListed i out err task) answer
 IsCommandRun commands.Split tells i out err task answer = Exits (IsSplit i out err task) answer
-IsCommandRun commands.Reverse tells i out err task answer = Exits (IsStreamReversed i out err task) answer
+IsCommandRun commands.Reverse tells i out err task answer =
+    Exits (IsStreamReversed i out err task) answer
 IsCommandRun (commands.Describe kind) tells i out err task answer =
     Exits (IsFileDescribed kind i out err task) answer
 IsCommandRun commands.DescribeStream tells i out err task answer =
@@ -280,7 +292,8 @@ is_help_or_version word =
 
 -- The effect of the arguments. If one of them asks for help or for the version, that is written.
 -- Else the task that they ask for is run, or it is reported what is wrong with them.
-abbrev pub AreArgumentsRun : Clock → Inputs → Device → Device → List (List ℕ) → Bool → Status → Type 0
+abbrev pub AreArgumentsRun : Clock → Inputs → Device → Device → List (List ℕ) → Bool → Status
+    → Type 0
 AreArgumentsRun tells i out err words of_program answer =
     (IsTrue of_program × Exits (IsAnswer out err (program_text words) statuses.Done) answer)
     ⊎ ((of_program ≡ false)

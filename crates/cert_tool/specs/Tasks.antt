@@ -253,7 +253,8 @@ are_both_standard_input first second = is_standard_input first && is_standard_in
 -- Two of the three files are standard input.
 abbrev pub shares_input : List ℕ → List ℕ → List ℕ → Bool
 shares_input anchors answers file =
-    are_both_standard_input anchors answers || (are_both_standard_input anchors file || are_both_standard_input answers file)
+    are_both_standard_input anchors answers || (are_both_standard_input anchors file
+    || are_both_standard_input answers file)
 
 -- The task has this command and this file, and its fields are the values of the options.
 abbrev pub IsTask : Command → List ℕ → PlainArguments → Task → Type 0

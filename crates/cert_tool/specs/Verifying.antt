@@ -48,17 +48,18 @@ too_much_line = codes "answers: 2^32 octets or more\n"
 abbrev pub IsMissingAnswersReported : Device → NoAnswers → ExitStatus → Type 0
 IsMissingAnswersReported err (reasons.Line number fault) answer =
     IsComplaint err (wrong_line number fault) statuses.Arguments answer ⊎ IsMemoryTold err answer
-IsMissingAnswersReported err reasons.TooMuch answer = IsComplaint err too_much_line statuses.Arguments answer
+IsMissingAnswersReported err reasons.TooMuch answer =
+    IsComplaint err too_much_line statuses.Arguments answer
 IsMissingAnswersReported err reasons.Device answer = IsDeviceTold err answer
 IsMissingAnswersReported err reasons.OutOfMemory answer = IsMemoryTold err answer
 
 -- The member `unjudged` of a JSON object: what no rule checks in a chain and in the trust anchors
--- that these bytes encode. A line has no such member.
-abbrev pub IsUnjudgedIf : Bool → List ℕ → List PlainCertificate → List ℕ → Type 0
-IsUnjudgedIf true octets cs unjudged = IsUnjudgedText octets cs unjudged
-IsUnjudgedIf false octets cs unjudged = unjudged ≡ []
+-- that these bytes encode, nor `--strict` if it is given. A line has no such member.
+abbrev pub IsUnjudgedIf : Bool → Bool → List ℕ → List PlainCertificate → List ℕ → Type 0
+IsUnjudgedIf true strict octets cs unjudged = IsUnjudgedText strict octets cs unjudged
+IsUnjudgedIf false strict octets cs unjudged = unjudged ≡ []
 
--- The JSON object (RFC 8259) of a chain that is refused for this reason.
+-- The JSON object (RFC 8259) of a chain that is rejected for this reason.
 abbrev pub refused_json : ℕ → List ℕ → ℕ → List ℕ → List ℕ
 refused_json place reason calls unjudged =
     codes "{\"verdict\":\"refused\",\"place\":" ++ decimal place ++ codes ",\"rule\":\""

@@ -12,9 +12,9 @@ ghost use Rattle.cert_tool.specs.NamedFiles.{IsOpenedAs};
 
 use crate::clock::UnixClock;
 use crate::explaining::explain_chain;
-use crate::files::{open, report_failure};
+use crate::files::{open, report_failure, report_no_anchors};
 use crate::host_files::ErrorReasons;
-use crate::messages::{hint_at_chain, hint_at_validated};
+use crate::messages::{hint_at_files, hint_at_verdict};
 use crate::option_values::{Moment, Terms};
 use crate::questions::run_questions;
 use crate::status::Status;
@@ -120,7 +120,8 @@ pub(crate) fn verify<
     report_failure(alloc, files, &opened.answers, task.answers, err);
     report_failure(alloc, files, &opened.anchors, task.anchors, err);
     report_failure(alloc, files, &opened.stream, task.file, err);
-    hint_at_validated(alloc, task, are_read, status, err);
+    report_no_anchors(alloc, &opened.anchors, task.anchors, status, err);
+    hint_at_verdict(alloc, task, are_read, status, err);
     status
 }
 
@@ -153,10 +154,12 @@ pub(crate) fn explain<
         demands: task.demands,
         fails_on_remark: task.fails_on_remark,
     };
-    let status = explain_chain(alloc, &mut opened, out, err, &terms);
+    let mut are_read = true;
+    let status = explain_chain(alloc, &mut opened, out, err, &terms, &mut are_read);
     report_failure(alloc, files, &opened.answers, task.answers, err);
     report_failure(alloc, files, &opened.anchors, task.anchors, err);
     report_failure(alloc, files, &opened.stream, task.file, err);
+    hint_at_files(alloc, task, are_read, status, err);
     status
 }
 
@@ -185,6 +188,7 @@ pub(crate) fn ask<I: Input + Drop, F: NamedInputs<I> + ErrorReasons, O: Output, 
     let status = run_questions(alloc, &mut anchors, &mut stream, out, err, task.limit);
     report_failure(alloc, files, &anchors, task.anchors, err);
     report_failure(alloc, files, &stream, task.file, err);
-    hint_at_chain(alloc, task, true, status, err);
+    report_no_anchors(alloc, &anchors, task.anchors, Status::Exit(status), err);
+    hint_at_files(alloc, task, true, Status::Exit(status), err);
     status
 }

@@ -44,7 +44,8 @@ fn unmet_text(
     let (place, limit) = (unmet.place, unmet.limit);
     if json {
         format!(in alloc;
-            "{{\"verdict\":\"refused\",\"place\":{place},\"rule\":\"{limit}\",\"calls\":{calls}{unjudged}}}\n"
+            "{{\"verdict\":\"refused\",\"place\":{place},\"rule\":\"{limit}\",\
+            \"calls\":{calls}{unjudged}}}\n"
         )
     } else {
         format!(in alloc; "refused {place} {limit} calls={calls}\n")
@@ -140,19 +141,20 @@ pub(crate) fn write_demand_result<O: Output, E: Output>(
     }
 }
 
-// Returns the member of a JSON object with what no rule checks, or no text for a line.
+// Returns the member of a JSON object with what isn't checked, or no text for a line.
 fn unjudged_if(
     alloc: Global,
     octets: &[u8],
     bundle: &Bundle,
     json: bool,
+    is_strict: bool,
 ) -> Result<String, AllocError>
     requires { length octets.now ≤ most_octets }
     ensures { IfOk result (λ text.
-        IsUnjudgedIf json octets.now bundle.now.certificates (string_bytes text)) }
+        IsUnjudgedIf json is_strict octets.now bundle.now.certificates (string_bytes text)) }
 {
     if json {
-        unjudged_text(alloc, octets, bundle)
+        unjudged_text(alloc, octets, bundle, is_strict)
     } else {
         Ok(String::new(alloc))
     }
@@ -216,7 +218,8 @@ pub(crate) fn report_chain<O: Output, E: Output>(
         bundle.now.certificates (sink O.gives O.failures out.old out.new)
         (sink E.gives E.failures err.old err.new) checked result }
 {
-    match unjudged_if(alloc, octets, bundle, terms.is_json) {
+    let is_strict = terms.demands.is_strict;
+    match unjudged_if(alloc, octets, bundle, terms.is_json, is_strict) {
         Ok(unjudged) => report_with(
             alloc,
             octets,

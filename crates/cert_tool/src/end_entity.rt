@@ -68,7 +68,8 @@ pub(crate) fn end_entity_text(
     bundle: &Bundle,
     json: bool,
 ) -> Result<String, AllocError>
-    ensures { IfOk result (λ text. string_bytes text ≡ end_entity_text json bundle.now.certificates) }
+    ensures { IfOk result (λ text.
+        string_bytes text ≡ end_entity_text json bundle.now.certificates) }
 {
     if bundle.is_empty() {
         return Ok(String::new(alloc));

@@ -108,6 +108,7 @@ fn explained(
         anchor_octets,
         heard: &heard,
         purpose,
+        is_strict: terms.demands.is_strict,
     };
     let held = demand_result_if(alloc, bundle, anchor_octets, terms, &mut judge)?;
     let explained = told(alloc, bundle, &judged, held, terms.is_json)?;
@@ -122,13 +123,13 @@ fn report_no_chain<E: Output>(err: &mut E, outcome: Outcome) -> ExitStatus
         Outcome::Checked(checked) => {
             let line = match checked.verdict {
                 Verdict::Empty => "the stream is empty\n",
-                _ => "the stream can't be decoded: `cert_tool explain stream` prints why\n",
+                _ => "the stream can't be decoded\n",
             };
             complain(err, line.as_bytes(), status_of(checked.verdict))
         }
         Outcome::BadAnchors { .. } => complain(
             err,
-            b"the trust anchors can't be decoded: `cert_tool explain anchors` prints why\n",
+            b"the trust anchors can't be decoded\n",
             ExitStatus::Arguments,
         ),
         Outcome::Device => tell_device(err),
@@ -261,7 +262,7 @@ fn explain_by<I: Input, O: Output, E: Output>(
         (sink O.gives O.failures out.old out.new) (sink E.gives E.failures err.old err.new)
         terms.now (only_yes_to (map answer_plain answers.items)) result }
 {
-    match read_input(alloc, anchors, err) {
+    match read_input(alloc, false, anchors, err) {
         Ok(octets) => explain_under(alloc, answers, octets.as_slice(), stream, out, err, terms),
         Err(status) => Status::Exit(status),
     }
@@ -277,13 +278,14 @@ fn explain_by<I: Input, O: Output, E: Output>(
 // meet.
 //
 // The answers are read first. If they can't be read, `explain_chain` reports that as `run_verify`
-// does.
+// does, and `are_read` becomes false (no clause states this; only a hint depends on it).
 pub(crate) fn explain_chain<I: Input, O: Output, E: Output>(
     alloc: Global,
     inputs: &mut Opened<I>,
     out: &mut O,
     err: &mut E,
     terms: &Terms<'_>,
+    are_read: &mut bool,
 ) -> Status
     requires { 6 ≤ terms.now.limit }
     ensures explained { IsExplained
@@ -303,6 +305,9 @@ pub(crate) fn explain_chain<I: Input, O: Output, E: Output>(
             err,
             terms,
         ),
-        Err(none) => Status::Exit(report_none(alloc, none, err)),
+        Err(none) => {
+            *are_read = false;
+            Status::Exit(report_none(alloc, none, err))
+        }
     }
 }

@@ -7,8 +7,9 @@ ghost use Rattle.cert_tool.specs.NamedFiles.{IsOpenedAs, IsUnusable, wrong_conte
 ghost use Rattle.cert_tool.specs.EarlyEnds.{IsReasonReported};
 
 use crate::host_files::ErrorReasons;
-use crate::messages::tell;
+use crate::messages::{line_with, tell};
 use crate::pem_texts::{not_text_line, refused_line, too_much_line};
+use crate::status::Status;
 use cert_tool_explain::desk_io::{ExitStatus, Input, NamedInputs, OpenError, Output, tell_memory};
 use cert_tool_pem::{FileError, FileInput, Wanted, input_of};
 use std::alloc::{AllocError, Global};
@@ -113,6 +114,26 @@ pub(crate) fn open<I: Input + Drop, F: NamedInputs<I> + ErrorReasons, E: Output>
             let last = files.last_error();
             Err(report_file_error(alloc, wanted, name, &error, last, err))
         },
+    }
+}
+
+// Reports that the file of the trust anchors contains none, after a run that used them.
+pub(crate) fn report_no_anchors<I, E: Output>(
+    alloc: Global,
+    anchors: &FileInput<I>,
+    name: &str,
+    status: Status,
+    err: &mut E,
+) {
+    let is_used = matches!(
+        status,
+        Status::Exit(ExitStatus::Done) | Status::Exit(ExitStatus::Refused)
+    );
+    if is_used && anchors.is_empty() {
+        tell(
+            err,
+            line_with(alloc, "(--anchors: ", name, " has no trust anchor)"),
+        );
     }
 }
 

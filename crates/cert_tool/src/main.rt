@@ -17,6 +17,7 @@ mod host_files;
 mod json_texts;
 mod messages;
 mod no_command;
+mod one_value;
 mod option_values;
 mod parsed_arguments;
 mod pem_texts;
@@ -43,6 +44,11 @@ use cert_tool_explain::desk_io::{FromRead, Output, ToWrite, tell_memory, words_o
 use std::alloc::{AllocError, Global};
 use std::io::IsTerminal;
 use std::process::ExitCode;
+
+// The message for an argument that isn't UTF-8. The kit opens files by texts alone.
+const NOT_UTF8: &str =
+    "an argument isn't UTF-8; to read a file with such a name, give `-`, and redirect standard input
+";
 
 fn main(rt: HostRuntime) -> ExitCode {
     ExitCode::from(run(&rt).code())
@@ -97,7 +103,7 @@ fn run_words<O: Output, E: Output>(
 fn run(rt: &HostRuntime) -> Status {
     let last = LastError::new();
     let mut err = ToWrite::new(SilencedErrors::new(rt, &last));
-    let words = match words_of(rt, &mut err, b"a word isn't UTF-8\n") {
+    let words = match words_of(rt, &mut err, NOT_UTF8.as_bytes()) {
         Ok(words) => words,
         Err(status) => return Status::Exit(status),
     };

@@ -4,7 +4,7 @@ ghost use Rattle.std.specs.Prelude.{◌<◌, length, IfOk, string_bytes};
 ghost use Rattle.cert_tool_explain.specs.DeskIo.Devices.{sink};
 ghost use Rattle.cert_tool.specs.EarlyEnds.{IsReasonReported};
 
-use crate::help::help_of;
+use crate::help::{command_in, help_of};
 use crate::no_command::no_command_line;
 use crate::parsed_arguments::{ArgumentError, Key};
 use crate::shell_words::shell_word;
@@ -80,7 +80,8 @@ fn word_of(key: Key) -> &'static str {
 // Describes the values that an option may have.
 fn values_of(key: Key) -> &'static str {
     match key {
-        Key::Anchors | Key::Answers => "a file",
+        Key::Anchors => "a file of trust anchors",
+        Key::Answers => "a file of the lines of `questions` that a verifier kept",
         Key::At => "now, YYYY-MM-DDTHH:MM:SSZ, or seconds (no milliseconds) from 1970 to 9999",
         Key::Purpose => {
             "serverAuth, clientAuth, codeSigning, emailProtection, timeStamping, OCSPSigning, \
@@ -109,7 +110,9 @@ fn fault_line(alloc: Global, fault: ArgumentError<'_>) -> Result<String, AllocEr
         }
         ArgumentError::Unknown(word) => line_with(alloc, "unknown option ", word, ""),
         ArgumentError::Twice(key) => line_of(alloc, word_of(key), " is given twice", ""),
-        ArgumentError::NoValue(key) => line_of(alloc, word_of(key), " needs a value", ""),
+        ArgumentError::NoValue(key) => {
+            line_of(alloc, word_of(key), " needs a value: ", values_of(key))
+        }
         ArgumentError::Surplus(word) => line_with(alloc, "unexpected argument ", word, ""),
     }
 }
@@ -125,7 +128,14 @@ fn misuse_line(alloc: Global, words: &[&str], misuse: Misuse<'_>) -> Result<Stri
     match misuse {
         Misuse::Words(fault) => fault_line(alloc, fault),
         Misuse::NoCommand => no_command_line(alloc, words),
-        Misuse::Missing(key) => line_of(alloc, word_of(key), " is missing", ""),
+        Misuse::Missing(key) => {
+            line_of(
+                alloc,
+                word_of(key),
+                " is missing; its value is ",
+                values_of(key),
+            )
+        }
         Misuse::Excess(key) => line_of(alloc, "this command doesn't take ", word_of(key), ""),
         Misuse::Wrong(key, text) => wrong_line(alloc, key, text),
         Misuse::BytesInJson => {
@@ -140,6 +150,16 @@ fn misuse_line(alloc: Global, words: &[&str], misuse: Misuse<'_>) -> Result<Stri
     }
 }
 
+// Names the command that prints the help for these arguments.
+fn help_line(alloc: Global, words: &[&str]) -> Result<String, AllocError> {
+    line_of(
+        alloc,
+        "`cert_tool ",
+        command_in(words),
+        " --help` explains the command",
+    )
+}
+
 // Writes what is wrong with the arguments, and then the help, or the command that prints it.
 pub(crate) fn report_misuse<E: Output>(
     alloc: Global,
@@ -150,11 +170,12 @@ pub(crate) fn report_misuse<E: Output>(
     ensures { IsReasonReported (sink E.gives E.failures err.old err.new) }
 {
     tell(err, misuse_line(alloc, words, misuse));
-    let help = match misuse {
-        Misuse::NoCommand => help_of(words),
-        _ => "`cert_tool COMMAND --help` explains the command\n",
-    };
-    let _ = write_all(err, help.as_bytes());
+    match misuse {
+        Misuse::NoCommand => {
+            let _ = write_all(err, help_of(words).as_bytes());
+        }
+        _ => tell(err, help_line(alloc, words)),
+    }
 }
 
 // Returns a hint: the command that explains why a stream can't be decoded.
@@ -189,33 +210,45 @@ pub(crate) fn hint_at_stream<E: Output>(
     }
 }
 
-// Writes the hint for a chain that isn't trusted, or for anchors if the answers could be read.
-pub(crate) fn hint_at_chain<E: Output>(
-    alloc: Global,
-    task: &Task<'_>,
-    are_read: bool,
-    status: ExitStatus,
-    err: &mut E,
-) {
-    match status {
-        ExitStatus::Refused => {
-            let part = "(why: cert_tool explain chain, with the same options and file)\n";
-            let _ = write_all(err, part.as_bytes());
-        }
-        ExitStatus::Arguments if are_read => tell(err, anchors_hint(alloc, task.anchors)),
-        _ => hint_at_stream(alloc, task, status, err),
-    }
-}
-
-// Writes the hint for a chain that was validated but isn't trusted.
-pub(crate) fn hint_at_validated<E: Output>(
+// Writes the hint for trust anchors or a stream that can't be decoded. The trust anchors can be the
+// reason only if `are_read`, that is, if the answers could be read.
+pub(crate) fn hint_at_files<E: Output>(
     alloc: Global,
     task: &Task<'_>,
     are_read: bool,
     status: Status,
     err: &mut E,
 ) {
-    if let Status::Exit(status) = status {
-        hint_at_chain(alloc, task, are_read, status, err);
+    match status {
+        Status::Exit(ExitStatus::Arguments) if are_read => {
+            tell(err, anchors_hint(alloc, task.anchors))
+        }
+        Status::Exit(status) => hint_at_stream(alloc, task, status, err),
+        Status::EndsSoon => {}
+    }
+}
+
+// Returns a hint: the command that explains why a chain is rejected. It doesn't take `--warn-days`.
+fn refused_hint(task: &Task<'_>) -> &'static str {
+    if task.demands.warn_days.is_some() {
+        "(why: cert_tool explain chain, with this file and the same options except --warn-days)\n"
+    } else {
+        "(why: cert_tool explain chain, with the same options and file)\n"
+    }
+}
+
+// Writes the hint after `verify`: for a chain that is rejected, or for files that can't be decoded.
+pub(crate) fn hint_at_verdict<E: Output>(
+    alloc: Global,
+    task: &Task<'_>,
+    are_read: bool,
+    status: Status,
+    err: &mut E,
+) {
+    match status {
+        Status::Exit(ExitStatus::Refused) => {
+            let _ = write_all(err, refused_hint(task).as_bytes());
+        }
+        _ => hint_at_files(alloc, task, are_read, status, err),
     }
 }

@@ -53,6 +53,14 @@ pub(crate) fn no_command_line(alloc: Global, words: &[&str]) -> Result<String, A
     if let Some(kinds) = kinds_of(word) {
         return kind_line(alloc, word, given.second, kinds);
     }
+    if word == "serve" {
+        return line_of(
+            alloc,
+            "`serve` takes no arguments, and can't be a request",
+            "",
+            "",
+        );
+    }
     if of_word(word).is_none() {
         return line_with(alloc, "unknown command ", word, "");
     }

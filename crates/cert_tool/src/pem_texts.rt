@@ -37,6 +37,41 @@ fn printed_label(text: &[u8], number: u64) -> Option<&str> {
     str::from_utf8(label).ok()
 }
 
+// Returns whether the BEGIN line with this number has other boundaries, too. A label has no five
+// dashes.
+fn has_lost_ends(text: &[u8], number: u64) -> bool {
+    let Some(label) = label_at(text, number) else {
+        return false;
+    };
+    match str::from_utf8(label) {
+        Ok(label) => label.contains("-----"),
+        Err(_) => false,
+    }
+}
+
+// Returns whether a text has a certificate in PEM.
+fn has_certificate(text: &[u8]) -> bool {
+    match str::from_utf8(text) {
+        Ok(text) => text.contains("-----BEGIN CERTIFICATE-----"),
+        Err(_) => false,
+    }
+}
+
+// Returns what to do with a file that has a block with this label.
+fn step_for(label: &str, text: &[u8]) -> &'static str {
+    match label {
+        "CERTIFICATE" | "X509 CERTIFICATE" => " (`cert_tool describe certificate FILE`)",
+        "X509 CRL" => " (`cert_tool describe list FILE`)",
+        "CERTIFICATE REQUEST" | "NEW CERTIFICATE REQUEST" => {
+            " (`cert_tool describe request FILE`)"
+        }
+        "PKCS7" => " (`openssl pkcs7 -in FILE -print_certs` writes its certificates)",
+        "TRUSTED CERTIFICATE" => " (`openssl x509 -in FILE` writes its certificate)",
+        _ if has_certificate(text) => " (`openssl x509 -in FILE` writes its certificate)",
+        _ => "",
+    }
+}
+
 // Returns the message for a file with an unexpected block.
 fn other_line(
     alloc: Global,
@@ -45,11 +80,18 @@ fn other_line(
     text: &[u8],
     number: u64,
 ) -> Result<String, AllocError> {
+    if has_lost_ends(text, number) {
+        return format!(in alloc;
+            "{name:?}, line {number}: the BEGIN line has more than a label; put line ends back"
+        );
+    }
     let wanted = wanted_text(wanted);
     match printed_label(text, number) {
         Some(label) => {
-            let article = article_of(label);
-            format!(in alloc; "{name:?}, line {number}: the file has {article} {label}; {wanted}")
+            let (article, step) = (article_of(label), step_for(label, text));
+            format!(in alloc;
+                "{name:?}, line {number}: the file has {article} {label}; {wanted}{step}"
+            )
         }
         None => format!(in alloc; "{name:?}, line {number}: the file has another block; {wanted}"),
     }

@@ -1,19 +1,20 @@
-//! The commands that read one file completely: `describe KIND` and `explain`.
+//! The commands that read one file before they write anything: `describe KIND` and `explain`.
 
 ghost use Rattle.std.specs.Prelude.{◌≡◌, ◌≤◌, false, IfOk, IfErr, OnOk};
 ghost use Rattle.cert_tool_explain.specs.DeskIo.Devices.{sink, source};
 ghost use Rattle.cert_tool_explain.specs.DeskIo.NamedInputs.{inputs};
-ghost use Rattle.cert_tool_explain.specs.DeskIo.Whole.{IsWhole, most_octets};
 ghost use Rattle.cert_tool.specs.Explaining.{IsUnreadReported, IsTextWritten, IsStatusBy};
 ghost use Rattle.cert_tool.specs.NamedFiles.{OnNamedFile};
+ghost use Rattle.cert_tool.specs.OneValue.{IsReadIf};
 ghost use Rattle.cert_tool.specs.TaskRuns.{IsFileDescribed, IsFileExplained, IsUnreadable, of_kind};
-ghost use Rattle.cert_tool.specs.TaskRuns.{IsValidFile, wanted_of};
+ghost use Rattle.cert_tool.specs.TaskRuns.{IsValidFile, takes_one, wanted_of, whole_file};
 
 use crate::files::{open, report_failure};
 use crate::host_files::ErrorReasons;
+use crate::one_value::read_if;
 use crate::tasks::{Command, Task};
 use cert_tool_explain::desk_io::{
-    ExitStatus, Input, NamedInputs, Output, ReadAllError, answer, complain, read_all, tell_device,
+    ExitStatus, Input, NamedInputs, Output, ReadAllError, answer, complain, tell_device,
     tell_memory,
 };
 use cert_tool_explain::{
@@ -22,22 +23,23 @@ use cert_tool_explain::{
 use cert_tool_pem::Wanted;
 use std::alloc::{AllocError, Global};
 
-// Reads an input to its end. If that fails, `read_input` reports the reason and returns the exit
+// Reads an input to its end. If `is_one`, it should contain one value, and reading also ends when
+// many bytes follow it. If a read fails, `read_input` reports the reason and returns the exit
 // status as its error.
 pub(crate) fn read_input<I: Input, E: Output>(
     alloc: Global,
+    is_one: bool,
     input: &mut I,
     err: &mut E,
 ) -> Result<Vec<u8>, ExitStatus>
-    ensures whole { IfOk result (λ octets.
-        IsWhole (source I.takes I.is_ended I.failures input.old input.new) most_octets
-        octets.items) }
+    ensures read { IfOk result (λ octets. IsReadIf is_one
+        (source I.takes I.is_ended I.failures input.old input.new) octets.items) }
     ensures untold { OnOk result (err.new ≡ err.old) }
     ensures unread { IfErr result
         (IsUnreadReported (source I.takes I.is_ended I.failures input.old input.new)
         (sink E.gives E.failures err.old err.new)) }
 {
-    match read_all(alloc, input, u32::MAX) {
+    match read_if(alloc, is_one, input) {
         Ok(octets) => Ok(octets),
         Err(ReadAllError::TooMuch) => {
             Err(complain(err, b"more than 4294967295 bytes\n", ExitStatus::Faulty))
@@ -70,25 +72,32 @@ fn wanted_of(command: Command) -> Wanted
     }
 }
 
-// Opens and reads a file. If that fails, `read_file` reports the reason and returns the exit status
-// as its error.
+// Returns whether a command takes a file that should be one value.
+fn takes_one(command: Command) -> bool
+    ensures { result ≡ takes_one command }
+{
+    matches!(command, Command::Describe(_) | Command::Explain(_))
+}
+
+// Opens and reads the file of a task. If that fails, `read_file` reports the reason and returns the
+// exit status as its error.
 fn read_file<I: Input + Drop, F: NamedInputs<I> + ErrorReasons, E: Output>(
     alloc: Global,
     files: &F,
-    wanted: Wanted,
-    name: &str,
+    task: &Task<'_>,
     err: &mut E,
 ) -> Result<Vec<u8>, ExitStatus>
-    ensures whole { IfOk result (λ octets. OnNamedFile
+    ensures read { IfOk result (λ octets. OnNamedFile
         (inputs I.takes I.is_ended I.failures (F.is_opened files.now) (F.is_unopened files.now))
-        (wanted, name.now) (λ input. IsWhole input most_octets octets.items)) }
+        (whole_file task.now) (λ input. IsReadIf (takes_one task.now.command) input octets.items)) }
     ensures unread { IfErr result (IsUnreadable
         (inputs I.takes I.is_ended I.failures (F.is_opened files.now) (F.is_unopened files.now))
-        (wanted, name.now) (sink E.gives E.failures err.old err.new)) }
+        (whole_file task.now) (sink E.gives E.failures err.old err.new)) }
 {
-    let mut input = open(alloc, files, wanted, name, err)?;
-    let octets = read_input(alloc, &mut input, err);
-    report_failure(alloc, files, &input, name, err);
+    let is_one = takes_one(task.command);
+    let mut input = open(alloc, files, wanted_of(task.command), task.file, err)?;
+    let octets = read_input(alloc, is_one, &mut input, err);
+    report_failure(alloc, files, &input, task.file, err);
     octets
 }
 
@@ -116,7 +125,7 @@ pub(crate) fn describe_file<
         (sink O.gives O.failures out.old out.new) (sink E.gives E.failures err.old err.new)
         task.now result }
 {
-    match read_file(alloc, files, wanted_of(task.command), task.file, err) {
+    match read_file(alloc, files, task, err) {
         Ok(octets) => describe(
             alloc,
             kind,
@@ -178,7 +187,7 @@ pub(crate) fn explain_file<I: Input + Drop, F: NamedInputs<I> + ErrorReasons, O:
         (sink O.gives O.failures out.old out.new) (sink E.gives E.failures err.old err.new)
         task.now result }
 {
-    match read_file(alloc, files, wanted_of(task.command), task.file, err) {
+    match read_file(alloc, files, task, err) {
         Ok(octets) => write_explanation(alloc, octets.as_slice(), task, out, err),
         Err(status) => status,
     }

@@ -128,8 +128,10 @@ pub(crate) fn run_task<
 /// the program's name. `Task::parse` parses them, and the command opens the files that they name.
 ///
 /// Results are written to `out`. Errors in the arguments, in the files and in their contents are
-/// reported on `err`, with a hint that names the command with more information. If `is_watched`, as
-/// on a terminal, `err` also shows the progress on a long stream.
+/// reported on `err`, with a hint that names the command to run next. If `is_watched`, as on a
+/// terminal, `err` also shows the progress on a long stream.
+///
+/// The contract doesn't say what `describe` and `explain` print, nor what a terminal shows.
 pub fn obey<C: UnixClock, I: Input + Drop, F: NamedInputs<I> + ErrorReasons, O: Output, E: Output>(
     alloc: Global,
     clock: &C,

@@ -49,7 +49,7 @@ impl<'a> Several<'a> {
         }
     }
 
-    // Adds these arguments. `awaits`: the first one is the value of the option before it.
+    // Adds these arguments. If `awaits`, the first one is the value of the option before it.
     fn add(&mut self, awaits: bool, words: &[&'a str]) -> Result<(), AllocError>
         ensures options { OnOk result (map (λ word. word.now) self.new.options.items
             ≡ map (λ word. word.now) self.old.options.items
@@ -313,13 +313,13 @@ fn run_several<
     )
 }
 
-/// Runs what the arguments of `cert_tool` ask for; `words` are the arguments without the program's
-/// name. `describe` may name several files, which are described in turn; all others are one run, as
-/// [`obey`] runs it.
+/// Runs the command that the arguments of `cert_tool` ask for; `words` are the arguments without
+/// the program's name. If `describe` names several files, they are described in turn, up to the
+/// first one whose status is `Arguments`. Every other command is run by [`obey`].
 ///
 /// Before the description of each of several files, the line `file "NAME"` is written, unless the
-/// descriptions are JSON. After the errors of a file, it is named on the error output. The status is
-/// the first one that isn't `Done`.
+/// descriptions are JSON. After the errors of a file, it is named on the error output. The status
+/// is the first one that isn't `Done`.
 pub fn obey_words<
     C: UnixClock,
     I: Input + Drop,

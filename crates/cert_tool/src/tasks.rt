@@ -366,8 +366,10 @@ fn text_of<'a>(given: &ParsedArguments<'a>, key: Key, default: &'a str) -> &'a s
 
 // Returns the validation time. The error is the text that can't be parsed.
 fn time_of<'a>(given: &ParsedArguments<'a>) -> Result<Moment, &'a str>
-    ensures read { IfOk result (λ moment. IsTimeText moment (time_text (arguments_plain given.now))) }
-    ensures amiss { IfErr result (λ text. IsWrongValue Key.At text.now (arguments_plain given.now)) }
+    ensures read { IfOk result (λ moment.
+        IsTimeText moment (time_text (arguments_plain given.now))) }
+    ensures amiss { IfErr result (λ text.
+        IsWrongValue Key.At text.now (arguments_plain given.now)) }
 {
     let text = text_of(given, Key::At, "now");
     parse_time(text).ok_or(text)
@@ -377,7 +379,8 @@ fn time_of<'a>(given: &ParsedArguments<'a>) -> Result<Moment, &'a str>
 fn purpose_of<'a>(given: &ParsedArguments<'a>) -> Result<ObjectIdentifier<39>, &'a str>
     ensures read { IfOk result (λ purpose.
         IsPurpose purpose (purpose_text (arguments_plain given.now))) }
-    ensures amiss { IfErr result (λ text. IsWrongValue Key.Purpose text.now (arguments_plain given.now)) }
+    ensures amiss { IfErr result (λ text.
+        IsWrongValue Key.Purpose text.now (arguments_plain given.now)) }
 {
     let text = text_of(given, Key::Purpose, "serverAuth");
     purpose_in(text).map_err(|_| text)
@@ -386,7 +389,8 @@ fn purpose_of<'a>(given: &ParsedArguments<'a>) -> Result<ObjectIdentifier<39>, &
 // Returns the maximum number of bytes of a certificate. The error is the text that can't be parsed.
 fn limit_of<'a>(given: &ParsedArguments<'a>) -> Result<u32, &'a str>
     ensures read { IfOk result (λ limit. IsLimit limit (limit_text (arguments_plain given.now))) }
-    ensures amiss { IfErr result (λ text. IsWrongValue Key.Limit text.now (arguments_plain given.now)) }
+    ensures amiss { IfErr result (λ text.
+        IsWrongValue Key.Limit text.now (arguments_plain given.now)) }
 {
     let text = text_of(given, Key::Limit, "65536");
     limit_in(text).ok_or(text)
@@ -395,7 +399,8 @@ fn limit_of<'a>(given: &ParsedArguments<'a>) -> Result<u32, &'a str>
 // Returns the index of one certificate, if it is given. The error is the text that can't be parsed.
 fn place_in<'a>(given: &ParsedArguments<'a>) -> Result<Option<u64>, &'a str>
     ensures read { IfOk result (λ place. IsPlace place (arguments_plain given.now).place) }
-    ensures amiss { IfErr result (λ text. IsWrongValue Key.Place text.now (arguments_plain given.now)) }
+    ensures amiss { IfErr result (λ text.
+        IsWrongValue Key.Place text.now (arguments_plain given.now)) }
 {
     let Some(text) = given.place else {
         return Ok(None);
@@ -409,7 +414,8 @@ fn place_in<'a>(given: &ParsedArguments<'a>) -> Result<Option<u64>, &'a str>
 // Returns the host, if it is given. The error is the text that can't be parsed.
 fn host_in<'a>(given: &ParsedArguments<'a>) -> Result<Option<Host<'a>>, &'a str>
     ensures read { IfOk result (λ host. IsHostOf host (arguments_plain given.now).host) }
-    ensures amiss { IfErr result (λ text. IsWrongValue Key.Host text.now (arguments_plain given.now)) }
+    ensures amiss { IfErr result (λ text.
+        IsWrongValue Key.Host text.now (arguments_plain given.now)) }
 {
     let Some(text) = given.host else {
         return Ok(None);
@@ -439,7 +445,8 @@ fn days_of(text: &str) -> Option<u32>
 // parsed.
 fn days_in<'a>(given: &ParsedArguments<'a>) -> Result<Option<u32>, &'a str>
     ensures read { IfOk result (λ days. IsDays days (arguments_plain given.now).warn_days) }
-    ensures amiss { IfErr result (λ text. IsWrongValue Key.WarnDays text.now (arguments_plain given.now)) }
+    ensures amiss { IfErr result (λ text.
+        IsWrongValue Key.WarnDays text.now (arguments_plain given.now)) }
 {
     let Some(text) = given.warn_days else {
         return Ok(None);

@@ -14,12 +14,11 @@ use crate::option_values::Terms;
 use crate::status::Status;
 use cert_desk_answers::{LineFault, NoAnswers, answers_in};
 use cert_tool_explain::desk_bundle::Bundle;
-use cert_tool_explain::desk_checking::{Outcome, status_of, verdict_line};
+use cert_tool_explain::desk_checking::{Outcome, find_validated, status_of, verdict_line};
 use cert_tool_explain::desk_io::{
     ExitStatus, Input, Output, ReadAllError, answer, complain, read_all, tell_device, tell_memory,
 };
 use cert_tool_explain::desk_rules::{Answer, AnswersJudge, Checked, Verdict};
-use cert_tool_limits::find_validated;
 use std::alloc::{AllocError, Global};
 
 /// The inputs of a chain that is validated.
@@ -98,7 +97,8 @@ fn verdict_json(
             trusted_text(alloc, whom.as_str(), calls, true)
         }
         Verdict::Refused { place, rule } => format!(in alloc;
-            "{{\"verdict\":\"refused\",\"place\":{place},\"rule\":\"{rule}\",\"calls\":{calls}{unjudged}}}\n"
+            "{{\"verdict\":\"refused\",\"place\":{place},\"rule\":\"{rule}\",\
+            \"calls\":{calls}{unjudged}}}\n"
         ),
         Verdict::StreamFault {
             place,
@@ -168,15 +168,18 @@ pub(crate) fn report_verdict<O: Output, E: Output>(
 
 /// Validates the stream of one input under the trust anchors of another, as `run_check` of
 /// `cert_desk_checking` does. A signature is valid if a third input, the answers, says so. The
-/// verdict is reported as a line, or as a JSON object with those of the members `verdict`, `place`,
-/// `rule`, `offset`, `kind` and `calls` that its line has, and with what no rule checks.
+/// verdict is reported as a line, or as a JSON object. The object has a member for each part of the
+/// line, and the member `unjudged`, which lists what no rule checks.
 ///
-/// A trusted chain must then meet the demands. If it doesn't, it is reported as refused, with the
-/// name of the limit instead of a rule. If it ends soon, a second line, or the member `ends`, says
-/// so.
+/// A trusted chain must then keep the limits of `--host` and `--strict`. If it breaks one, it is
+/// reported as rejected, with the name of the limit instead of a rule. If it ends within the days
+/// of `--warn-days`, a second line, or the member `ends`, says so.
 ///
 /// The answers are read first, by `read_answers`. If they can't be read, the reason is reported,
-/// `are_read` becomes false, and the other inputs aren't read.
+/// and the other inputs aren't read.
+///
+/// `are_read` must be true before the call. It is set to false if the answers can't be read. No
+/// clause states this, because only a hint depends on it.
 pub fn run_verify<I: Input, O: Output, E: Output>(
     alloc: Global,
     inputs: &mut Opened<I>,

@@ -3,7 +3,7 @@
 use crate::content_parts::unsupported_content;
 use crate::described::add_content;
 use crate::other_contents::add_other_content;
-use crate::timestamps::timestamps_fault;
+use crate::timestamps::{add_timestamps, timestamps_fault};
 use crate::values::{add_value_of, read_members};
 use cert_tool_lines::Lines;
 use cert_tool_lines::cert_parts::Extension;
@@ -12,7 +12,6 @@ use std::alloc::Global;
 use x509_cert_extensions::cert_general_names::{
     AuthorityKeyIdentifier, GeneralName, IssuingDistributionPoint, NameConstraints,
 };
-use x509_cert_extensions::policy_types::timestamps::SignedCertificateTimestampList;
 use x509_cert_extensions::policy_types::{
     BasicConstraints, CertificatePolicies, InhibitAnyPolicy, PolicyConstraints, PolicyMappings,
     PrivateKeyUsagePeriod,
@@ -23,17 +22,11 @@ use x509_cert_extensions::{
 };
 use x509_cert_kinds::ExtensionKind as Kind;
 use x509_cert_lists::cert_names::Attribute;
-use x509_cert_lists::der::{Error, ErrorKind};
+use x509_cert_lists::der::Error;
 
 // Adds a line with content that isn't decoded.
 fn add_octets(lines: &mut Lines, octets: &[u8]) {
     lines.octets_row("octets", "octets", octets);
-}
-
-// Adds that content is malformed, and its bytes.
-pub fn add_malformed(lines: &mut Lines, octets: &[u8], kind: ErrorKind) {
-    lines.malformed("malformed", kind);
-    add_octets(lines, octets);
 }
 
 // Adds that content is malformed, or that it is valid but isn't supported.
@@ -101,9 +94,7 @@ fn add_content_of(lines: &mut Lines, extension: &Extension) -> Option<Error> {
             AuthorityInfoAccessSyntax,
         >(lines, octets),
         Kind::TlsFeature => add_content::<Vec<u16>>(lines, octets),
-        Kind::SignedCertificateTimestamps => {
-            add_content::<SignedCertificateTimestampList>(lines, octets)
-        }
+        Kind::SignedCertificateTimestamps => add_timestamps(lines, octets),
     }
 }
 

@@ -1,19 +1,16 @@
 //! Prints keys and digests.
 
 use crate::algorithms::{add_bit_row, add_malformed_parameters, add_members as add_algorithm};
-use crate::contents::add_malformed;
 use crate::curves::curve_bits;
-use crate::described::{Describe, add_content};
 use crate::values::{add_value, inside, list_in, noted, read_members};
 use base64::engine::general_purpose::STANDARD;
 use cert_tool_lines::cert_parts::SubjectPublicKeyInfo;
-use cert_tool_lines::types::{Any, Uint};
+use cert_tool_lines::types::{Any, BitString, Uint};
 use cert_tool_lines::{Lines, known_name};
 use sha1::Sha1;
 use sha2::{Digest, Sha256};
-use std::alloc::Global;
 use x509_cert_lists::der::making::leaf_from_der;
-use x509_cert_lists::der::{Error, ErrorKind, Tag, ToDer};
+use x509_cert_lists::der::{ErrorKind, Tag, ToDer};
 use x509_cert_lists::oid::ObjectIdentifier;
 
 // Returns the number of bits of a big-endian number.
@@ -44,22 +41,10 @@ fn add_octets(lines: &mut Lines, name: &str, octets: &[u8]) {
     lines.octets_row(name, name, octets);
 }
 
-// An RSA key is the SEQUENCE of its modulus and its exponent (RFC 3279 2.3.1).
-impl Describe for Vec<Uint> {
-    fn read_content(alloc: Global, octets: &[u8]) -> Result<Vec<Uint>, Error> {
-        read_members(alloc, octets)
-    }
-
-    fn describe(&self, lines: &mut Lines) {
-        match self.as_slice() {
-            [modulus, exponent] => {
-                add_bits(lines, bit_len(modulus.as_bytes()) as u64);
-                add_natural(lines, "modulus", modulus.as_bytes());
-                add_natural(lines, "exponent", exponent.as_bytes());
-            }
-            _ => lines.malformed("malformed", ErrorKind::Failed),
-        }
-    }
+// Adds that a key is malformed, and its bits.
+fn add_malformed_key(lines: &mut Lines, bits: &BitString, kind: ErrorKind) {
+    lines.malformed("malformed", kind);
+    add_bit_row(lines, "octets", "octets", bits);
 }
 
 // Returns whether a value is an INTEGER that isn't negative.
@@ -83,15 +68,21 @@ fn is_field(lines: &mut Lines, field: &[Any]) -> bool {
     }
 }
 
+// Returns the seed of an equation.
+fn seed_in(lines: &mut Lines, value: &Any) -> Option<BitString> {
+    let seed = value.decode_as::<BitString>(lines.alloc);
+    noted(lines, seed)
+}
+
 // Returns whether values are the coefficients of an equation, with or without a seed.
-fn are_coefficients(curve: &[Any]) -> bool {
+fn are_coefficients(lines: &mut Lines, curve: &[Any]) -> bool {
     let seed = match curve {
         [a, b, seed @ ..] if is_string(a) && is_string(b) => seed,
         _ => return false,
     };
     match seed {
         [] => true,
-        [seed] => seed.tag() == Tag::BitString,
+        [seed] => seed_in(lines, seed).is_some(),
         _ => false,
     }
 }
@@ -101,13 +92,23 @@ fn is_string(value: &Any) -> bool {
     value.tag() == Tag::OctetString
 }
 
+// Returns whether values are a cofactor and a hash, both of them optional.
+fn is_rest(lines: &mut Lines, rest: &[Any]) -> bool {
+    match rest {
+        [] => true,
+        [one] => one.tag() == Tag::Sequence || is_natural(lines, one),
+        [cofactor, hash] => hash.tag() == Tag::Sequence && is_natural(lines, cofactor),
+        _ => false,
+    }
+}
+
 // Returns whether values are ECParameters: version, field, coefficients, base point, order, and
 // optionally a cofactor and a hash (RFC 3279 2.3.5, X9.62 6.4).
 fn is_equation(lines: &mut Lines, parameters: &[Any]) -> bool {
     let [version, field, curve, base, order, rest @ ..] = parameters else {
         return false;
     };
-    if rest.len() > 2 || !is_string(base) {
+    if !is_string(base) || !is_rest(lines, rest) {
         return false;
     }
     let field = inside(lines, field);
@@ -115,7 +116,7 @@ fn is_equation(lines: &mut Lines, parameters: &[Any]) -> bool {
     is_natural(lines, version)
         && is_natural(lines, order)
         && is_field(lines, field.as_slice())
-        && are_coefficients(curve.as_slice())
+        && are_coefficients(lines, curve.as_slice())
 }
 
 // Adds a line with the field of a curve: its prime, or its type and parameters.
@@ -133,24 +134,44 @@ fn add_field(lines: &mut Lines, field: &[Any]) {
     }
 }
 
-// Adds the lines of the two coefficients of an equation.
+// Adds the lines of the two coefficients of an equation, and of its seed.
 fn add_coefficients(lines: &mut Lines, curve: &[Any]) {
-    if let [a, b, ..] = curve {
-        add_octets(lines, "a", a.value());
-        add_octets(lines, "b", b.value());
+    let [a, b, rest @ ..] = curve else {
+        return;
+    };
+    add_octets(lines, "a", a.value());
+    add_octets(lines, "b", b.value());
+    for value in rest {
+        if let Some(seed) = seed_in(lines, value) {
+            add_octets(lines, "seed", seed.raw_bytes());
+        }
+    }
+}
+
+// Adds a line with the cofactor of a curve, or with a hash.
+fn add_rest(lines: &mut Lines, value: &Any) {
+    if value.tag() == Tag::Integer {
+        lines.number_row("cofactor", "cofactor", value.value());
+    } else {
+        lines.node("hash", "hash");
+        add_value(lines, value);
+        lines.close();
     }
 }
 
 // Adds the lines of a curve that is specified by its equation (RFC 3279 2.3.5).
 fn add_equation(lines: &mut Lines, parameters: &[Any]) {
-    lines.word("laid down by its parameters");
-    if let [_, field, curve, generator, order, ..] = parameters {
+    lines.word("given by its parameters");
+    if let [_, field, curve, generator, order, rest @ ..] = parameters {
         let field = inside(lines, field);
         add_field(lines, field.as_slice());
         let curve = inside(lines, curve);
         add_coefficients(lines, curve.as_slice());
         add_octets(lines, "generator", generator.value());
         lines.number_row("order", "order", order.value());
+        for value in rest {
+            add_rest(lines, value);
+        }
     }
 }
 
@@ -236,25 +257,38 @@ fn add_dsa(lines: &mut Lines, key: &SubjectPublicKeyInfo) {
     if let Some(parameters) = &key.algorithm.parameters {
         add_group(lines, parameters);
     }
-    match leaf_from_der::<Uint>(lines.alloc, key.subject_public_key.raw_bytes()) {
-        Ok(number) => add_natural(lines, "public", number.as_bytes()),
-        Err(error) => lines.malformed("malformed", error.kind),
+    let bits = &key.subject_public_key;
+    match leaf_from_der::<Uint>(lines.alloc, bits.raw_bytes()) {
+        Ok(number) if bits.unused_bits() == 0 => add_natural(lines, "public", number.as_bytes()),
+        Ok(_) => add_malformed_key(lines, bits, ErrorKind::Failed),
+        Err(error) => add_malformed_key(lines, bits, error.kind),
     }
 }
 
-// Adds the lines of an RSA key, or that it is malformed.
-fn add_rsa(lines: &mut Lines, octets: &[u8]) {
-    if let Some(error) = add_content::<Vec<Uint>>(lines, octets) {
-        add_malformed(lines, octets, error.kind);
+// Adds the lines of the modulus and the exponent of an RSA key, or that it is malformed.
+fn add_numbers(lines: &mut Lines, numbers: &[Uint], bits: &BitString) {
+    match numbers {
+        [modulus, exponent] if bits.unused_bits() == 0 => {
+            add_bits(lines, bit_len(modulus.as_bytes()) as u64);
+            add_natural(lines, "modulus", modulus.as_bytes());
+            add_natural(lines, "exponent", exponent.as_bytes());
+        }
+        _ => add_malformed_key(lines, bits, ErrorKind::Failed),
+    }
+}
+
+// Adds the lines of an RSA key, which is a SEQUENCE of two numbers (RFC 3279 2.3.1).
+fn add_rsa(lines: &mut Lines, bits: &BitString) {
+    match read_members::<Uint>(lines.alloc, bits.raw_bytes()) {
+        Ok(numbers) => add_numbers(lines, numbers.as_slice(), bits),
+        Err(error) => add_malformed_key(lines, bits, error.kind),
     }
 }
 
 // Adds the lines of the key's bits, by the name of its algorithm.
 fn add_key_bits(lines: &mut Lines, key: &SubjectPublicKeyInfo) {
     match known_name(key.algorithm.oid.as_bytes()).unwrap_or("") {
-        "rsaEncryption" | "id-RSASSA-PSS" => {
-            add_rsa(lines, key.subject_public_key.raw_bytes());
-        }
+        "rsaEncryption" | "id-RSASSA-PSS" => add_rsa(lines, &key.subject_public_key),
         "id-dsa" => add_dsa(lines, key),
         "id-ecPublicKey" => add_point(lines, key),
         "id-X25519" | "id-X448" | "id-Ed25519" | "id-Ed448" => {

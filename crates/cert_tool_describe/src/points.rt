@@ -93,25 +93,25 @@ impl Describe for IssuingDistributionPoint {
         }
         add_scope(
             lines,
-            "end-entity certificates alone",
+            "only end-entity certificates",
             "onlyContainsUserCerts",
             self.only_contains_user_certs,
         );
         add_scope(
             lines,
-            "CA certificates alone",
+            "only CA certificates",
             "onlyContainsCACerts",
             self.only_contains_ca_certs,
         );
         add_scope(
             lines,
-            "attribute certificates alone",
+            "only attribute certificates",
             "onlyContainsAttributeCerts",
             self.only_contains_attribute_certs,
         );
         add_scope(
             lines,
-            "certificates of other issuers too",
+            "also certificates of other issuers",
             "indirectCRL",
             self.indirect_crl,
         );

@@ -173,13 +173,18 @@ impl Describe for PolicyConstraints {
     fn describe(&self, lines: &mut Lines) {
         if let Some(skipped) = self.require_explicit_policy {
             let skipped = u64::from(skipped);
-            lines.count_row("explicit policy after", "requireExplicitPolicy", skipped);
+            lines.count_row(
+                "require explicit policy after",
+                "requireExplicitPolicy",
+                skipped,
+            );
         }
         if let Some(skipped) = self.inhibit_policy_mapping {
+            let skipped = u64::from(skipped);
             lines.count_row(
-                "no mapping after",
+                "inhibit policy mapping after",
                 "inhibitPolicyMapping",
-                u64::from(skipped),
+                skipped,
             );
         }
     }
@@ -191,6 +196,6 @@ impl Describe for InhibitAnyPolicy {
     }
 
     fn describe(&self, lines: &mut Lines) {
-        lines.count_row("not anyPolicy after", "skipCerts", u64::from(self.0));
+        lines.count_row("inhibit anyPolicy after", "skipCerts", u64::from(self.0));
     }
 }

@@ -78,12 +78,12 @@ fn add_range(lines: &mut Lines, family: &[u8], least: &Any, most: &Any) -> bool 
     true
 }
 
-// Adds that an item is malformed.
-fn add_no_item(lines: &mut Lines) {
-    lines.comma();
-    lines.brace();
+// Adds a malformed item: its value, after a word.
+fn add_no_item(lines: &mut Lines, word: &str, value: &Any) {
+    lines.entry(word);
+    add_value(lines, value);
     lines.malformed("malformed", ErrorKind::Failed);
-    lines.end_brace();
+    lines.close();
 }
 
 // Adds a line with an address prefix or an address range.
@@ -93,7 +93,7 @@ fn add_addresses(lines: &mut Lines, family: &[u8], value: &Any) {
         _ => add_prefix(lines, family, value),
     };
     if !is_told {
-        add_no_item(lines);
+        add_no_item(lines, "", value);
     }
 }
 
@@ -124,7 +124,7 @@ fn add_family(lines: &mut Lines, family: &[u8], choice: &Any) {
                 add_addresses(lines, family, value);
             }
         }
-        None => add_no_item(lines),
+        None => add_no_item(lines, "", choice),
     }
     lines.end_list();
 }
@@ -191,7 +191,7 @@ fn add_systems_of(lines: &mut Lines, word: &str, choice: &Any) {
         return;
     }
     let Some(values) = sequence_in(lines, choice) else {
-        add_no_item(lines);
+        add_no_item(lines, word, choice);
         return;
     };
     for value in &values {
@@ -200,7 +200,7 @@ fn add_systems_of(lines: &mut Lines, word: &str, choice: &Any) {
             _ => add_numbers(lines, word, value, None),
         };
         if !is_told {
-            add_no_item(lines);
+            add_no_item(lines, word, value);
         }
     }
 }
@@ -211,7 +211,7 @@ fn add_field(lines: &mut Lines, word: &str, key: &str, field: &Any) {
     let choice = read_whole::<Any>(lines.alloc, field.value());
     match noted(lines, choice) {
         Some(choice) => add_systems_of(lines, word, &choice),
-        None => add_no_item(lines),
+        None => add_no_item(lines, word, field),
     }
     lines.end_list();
 }

@@ -1,12 +1,12 @@
 //! Prints signed certificate timestamps (RFC 6962 3.3).
 
-use crate::described::Describe;
+use crate::values::noted;
 use cert_tool_lines::Lines;
 use cert_tool_lines::types::OctetString;
 use std::alloc::Global;
 use x509_cert_extensions::policy_types::timestamps::{
     DigitallySigned, Error, HashAlgorithm, SerializedSct, SignatureAlgorithm,
-    SignedCertificateTimestamp, SignedCertificateTimestampList, TlsError,
+    SignedCertificateTimestamp, SignedCertificateTimestampList, TlsError, TlsValue,
 };
 use x509_cert_lists::der::making::leaf_from_der;
 use x509_cert_lists::der::{Error as DerError, ErrorKind, Tag};
@@ -80,49 +80,6 @@ fn add_timestamp(lines: &mut Lines, timestamp: &SignedCertificateTimestamp) {
     lines.close();
 }
 
-// Adds that timestamps are malformed.
-fn add_fault(lines: &mut Lines, error: Error) {
-    if let Error::Tls(TlsError::OutOfMemory) = error {
-        lines.fail();
-    }
-    lines.malformed("malformed", ErrorKind::Failed);
-}
-
-// Adds the lines of an encoded timestamp.
-fn add_written(lines: &mut Lines, written: &SerializedSct) {
-    match written.parse_timestamp(lines.alloc) {
-        Ok(timestamp) => add_timestamp(lines, &timestamp),
-        Err(error) => {
-            lines.comma();
-            lines.brace();
-            add_fault(lines, error);
-            lines.end_brace();
-        }
-    }
-}
-
-impl Describe for SignedCertificateTimestampList {
-    fn read_content(
-        alloc: Global,
-        octets: &[u8],
-    ) -> Result<SignedCertificateTimestampList, DerError> {
-        Ok(SignedCertificateTimestampList::from(leaf_from_der::<OctetString>(alloc, octets)?))
-    }
-
-    fn describe(&self, lines: &mut Lines) {
-        match self.parse_timestamps(lines.alloc) {
-            Ok(listed) => {
-                lines.list("timestamps");
-                for written in &listed {
-                    add_written(lines, written);
-                }
-                lines.end_list();
-            }
-            Err(error) => add_fault(lines, error),
-        }
-    }
-}
-
 // Returns the DER error for malformed timestamps in an OCTET STRING.
 fn timestamps_error(error: Error) -> DerError {
     match error {
@@ -134,24 +91,104 @@ fn timestamps_error(error: Error) -> DerError {
     }
 }
 
-// Returns the error of the first malformed timestamp, if there is one.
-fn timestamp_fault(alloc: Global, listed: &[SerializedSct]) -> Option<DerError> {
-    for written in listed {
-        if let Err(error) = written.parse_timestamp(alloc) {
-            return Some(timestamps_error(error));
-        }
+// Decodes a list of encoded timestamps.
+fn read_list(alloc: Global, octets: &[u8]) -> Result<Vec<SerializedSct>, DerError> {
+    let list = SignedCertificateTimestampList::from(leaf_from_der::<OctetString>(alloc, octets)?);
+    match list.parse_timestamps(alloc) {
+        Ok(listed) => Ok(listed),
+        Err(error) => Err(timestamps_error(error)),
     }
-    None
 }
 
-// Returns the error if the bytes aren't a list of timestamps.
-pub fn timestamps_fault(alloc: Global, octets: &[u8]) -> Option<DerError> {
-    let list = match SignedCertificateTimestampList::read_content(alloc, octets) {
-        Ok(list) => list,
-        Err(error) => return Some(error),
+// Returns the bytes of an encoded timestamp.
+fn octets_of(alloc: Global, written: &SerializedSct) -> Result<Vec<u8>, DerError> {
+    match written.tls_serialize(alloc) {
+        Ok(octets) => Ok(octets),
+        Err(error) => Err(timestamps_error(Error::Tls(error))),
+    }
+}
+
+// Returns the bytes after the length at the beginning of a vector.
+fn after_length(octets: &[u8]) -> &[u8] {
+    match octets {
+        [_, _, rest @ ..] => rest,
+        _ => octets,
+    }
+}
+
+// Returns whether an encoded timestamp has another version than version 1, whose number is 0. Such
+// a timestamp isn't malformed, but is skipped (RFC 6962 3.2, 3.3).
+fn has_other_version(octets: &[u8]) -> bool {
+    matches!(octets, [1..=0xff, ..])
+}
+
+// Adds the bytes of a timestamp that can't be decoded, and why.
+fn add_undecoded(lines: &mut Lines, octets: &[u8]) {
+    lines.comma();
+    lines.brace();
+    if has_other_version(octets) {
+        let words = "a timestamp of an unknown version";
+        lines.text_row("not read here:", "unread", words);
+    } else {
+        lines.malformed("malformed", ErrorKind::Failed);
+    }
+    lines.octets_row("octets", "octets", octets);
+    lines.end_brace();
+}
+
+// Adds the lines of an encoded timestamp.
+fn add_written(lines: &mut Lines, written: &SerializedSct) {
+    match written.parse_timestamp(lines.alloc) {
+        Ok(timestamp) => add_timestamp(lines, &timestamp),
+        Err(error) => {
+            lines.note(timestamps_error(error).kind);
+            let octets = octets_of(lines.alloc, written);
+            if let Some(octets) = noted(lines, octets) {
+                add_undecoded(lines, after_length(octets.as_slice()));
+            }
+        }
+    }
+}
+
+// Adds the lines of a list of timestamps. Returns the error if the bytes aren't one.
+pub fn add_timestamps(lines: &mut Lines, octets: &[u8]) -> Option<DerError> {
+    match read_list(lines.alloc, octets) {
+        Ok(listed) => {
+            lines.list("timestamps");
+            for written in &listed {
+                add_written(lines, written);
+            }
+            lines.end_list();
+            None
+        }
+        Err(error) => Some(error),
+    }
+}
+
+// Returns the error of an encoded timestamp, if it is malformed.
+fn timestamp_fault(alloc: Global, written: &SerializedSct) -> Option<DerError> {
+    let Err(error) = written.parse_timestamp(alloc) else {
+        return None;
     };
-    match list.parse_timestamps(alloc) {
-        Ok(listed) => timestamp_fault(alloc, listed.as_slice()),
-        Err(error) => Some(timestamps_error(error)),
+    match octets_of(alloc, written) {
+        Ok(octets) if has_other_version(after_length(octets.as_slice())) => None,
+        Ok(_) => Some(timestamps_error(error)),
+        Err(error) => Some(error),
+    }
+}
+
+// Returns the error if the bytes aren't a list of timestamps, or that of the first malformed one.
+pub fn timestamps_fault(alloc: Global, octets: &[u8]) -> Option<DerError> {
+    match read_list(alloc, octets) {
+        Ok(listed) => {
+            for written in &listed {
+                let fault = timestamp_fault(alloc, written);
+                if fault.is_some() {
+                    return fault;
+                }
+            }
+            None
+        }
+        Err(error) => Some(error),
     }
 }

@@ -1,6 +1,6 @@
 //! Explains why bytes aren't trust anchors.
 
-use crate::anchors::{add_anchor_fault, add_unchecked, begin_anchor};
+use crate::anchors::{Scope, add_anchor_fault, add_unchecked, begin_anchor};
 use crate::explained::Explained;
 use crate::is_pem;
 use crate::stream_report::PEM_STREAM;
@@ -52,7 +52,7 @@ fn add_anchors(lines: &mut Lines, octets: &[u8]) -> bool {
             lines.count_member("anchors", count as u64);
             lines.tail(", each with a name and a key");
             lines.close();
-            add_unchecked(lines, octets, None);
+            add_unchecked(lines, octets, Scope::all());
             return true;
         }
         Err(AnchorsError::BadAnchors { offset, fault }) => {

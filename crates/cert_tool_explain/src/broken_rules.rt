@@ -3,7 +3,7 @@
 ghost use Rattle.std.specs.Prelude.{◌≡◌};
 ghost use Rattle.cert_tool_explain.specs.KeptChains.{are_kept, keeps_each_rule};
 
-use crate::anchors::add_unchecked;
+use crate::anchors::{Scope, add_unchecked};
 use crate::chain_entry::ChainEntry;
 use crate::reasons::{LengthReasons, add_reason_of, begin_breach, begin_detail};
 use crate::remark_lines::end_remark;
@@ -11,7 +11,7 @@ use crate::remarks::add_remarks;
 use crate::serial_numbers::SerialNumbers;
 use crate::signed_answers::{SignedAnswers, add_algorithm};
 use crate::similar_names::{add_differences, are_similar};
-use crate::stream_report::{LEAF_FIRST, is_leaf_first};
+use crate::stream_report::is_leaf_first;
 use crate::unchecked_extensions::add_unchecked_extensions;
 use cert_desk_checking::Anchor;
 use cert_desk_checking::desk_bundle::Bundle;
@@ -21,17 +21,27 @@ use cert_tool_describe::cert_parts::Time;
 use cert_tool_describe::oid::ObjectIdentifier;
 use cert_tool_describe::tool_lines::Lines;
 
+// The message for a chain that was read in the order of TLS. `--leaf-first` turns the order of the
+// file around.
+const READ_LEAF_FIRST: &str =
+    "the certificates were read in the order of TLS (the server's first), but the server's must be \
+     the last: give --leaf-first, or leave it out if it was given";
+
 /// The result of validating a chain.
 #[derive(Clone, Copy)]
 pub struct ValidatedChain<'a> {
     /// The rules that each certificate keeps.
     pub kept: &'a [KeptRules],
+    /// The trust anchors.
     pub anchors: &'a [Anchor],
     /// The encoding of the trust anchors.
     pub anchor_octets: &'a [u8],
+    /// The answers, by their signed bytes.
     pub heard: &'a SignedAnswers,
     /// The key purpose.
     pub purpose: &'a ObjectIdentifier<39>,
+    /// Whether `--strict` is given.
+    pub is_strict: bool,
 }
 
 // Returns whether a certificate keeps every rule.
@@ -67,7 +77,11 @@ fn add_wrong_issuer(lines: &mut Lines, place: &ChainEntry<'_>, anchors: &[Anchor
     begin_breach(lines, Rule::WrongIssuer);
     match place.before() {
         None => {
-            lines.name("no trust anchor has the issuer's name ", issuer, "");
+            if anchors.is_empty() {
+                lines.name("there is no trust anchor, and the issuer is ", issuer, "");
+            } else {
+                lines.name("no trust anchor has the issuer's name ", issuer, "");
+            }
             begin_details(lines);
             add_near_anchors(lines, issuer, anchors);
         }
@@ -115,8 +129,18 @@ fn add_algorithms(lines: &mut Lines, place: &ChainEntry<'_>) {
     end_remark(lines, "RFC 5280 4.1.1.2");
 }
 
+// Returns whether there is a certificate before, or a trust anchor with the issuer's name.
+fn has_issuer(place: &ChainEntry<'_>, anchors: &[Anchor]) -> bool {
+    for anchor in anchors {
+        if anchor.name().has_octets_of(place.issuer()) {
+            return true;
+        }
+    }
+    place.number > 0
+}
+
 // Adds that no answer says that the signature is valid (RFC 5280 6.1.3 (a) (1)).
-fn add_wrong_signature(lines: &mut Lines, place: &ChainEntry<'_>, heard: &SignedAnswers) {
+fn add_wrong_signature(lines: &mut Lines, place: &ChainEntry<'_>, judged: &ValidatedChain<'_>) {
     begin_breach(lines, Rule::WrongSignature);
     lines.push("no answer says that the signature is valid under ");
     lines.push(if place.number == 0 {
@@ -126,7 +150,8 @@ fn add_wrong_signature(lines: &mut Lines, place: &ChainEntry<'_>, heard: &Signed
     });
     begin_details(lines);
     add_algorithm(lines, &place.certificate.signature_algorithm().oid);
-    heard.add(lines, place.signed);
+    let has_issuer = has_issuer(place, judged.anchors);
+    judged.heard.add(lines, place.signed, has_issuer);
     end_details(lines);
 }
 
@@ -158,7 +183,7 @@ fn add_breach(
             add_date_breach(lines, rule, "it was valid until ", &validity.not_after, "");
         }
         Rule::PathTooLong => lengths.add(lines, place, purpose),
-        Rule::WrongSignature => add_wrong_signature(lines, place, judged.heard),
+        Rule::WrongSignature => add_wrong_signature(lines, place, judged),
         Rule::DuplicateExtension
         | Rule::MalformedExtension
         | Rule::UnweighedCritical
@@ -208,7 +233,7 @@ fn add_entries_of_chain(
             let twin = serial_numbers.take(lines, &place);
             begin_place(lines, &place);
             add_breaches(lines, &place, kept, lengths, judged);
-            add_unchecked_extensions(lines, &place);
+            add_unchecked_extensions(lines, &place, judged.is_strict);
             add_remarks(lines, &place, twin);
             end_details(lines);
         }
@@ -220,10 +245,14 @@ fn add_entries_of_chain(
 /// remarks.
 pub fn add_chain(lines: &mut Lines, bundle: &Bundle, judged: &ValidatedChain<'_>) {
     if is_leaf_first(bundle) {
-        lines.finding(LEAF_FIRST);
+        lines.finding(READ_LEAF_FIRST);
     }
     if let Some(first) = ChainEntry::at(bundle, 0) {
-        add_unchecked(lines, judged.anchor_octets, Some(first.issuer()));
+        let scope = Scope {
+            issuer: Some(first.issuer()),
+            is_strict: judged.is_strict,
+        };
+        add_unchecked(lines, judged.anchor_octets, scope);
     }
     let mut lengths = LengthReasons::of(lines, bundle, judged.kept, judged.purpose);
     let mut serial_numbers = SerialNumbers::new(lines.alloc);

@@ -267,77 +267,66 @@ fn add_key_remarks(lines: &mut Lines, subject: &Subject<'_>, facts: &Facts) {
     );
 }
 
-// Adds the remarks on extensions that must, or must not, be together.
+// Adds the remarks on an extension that must, or must not, be together with others.
 fn add_beside_remarks(
     lines: &mut Lines,
     subject: &Subject<'_>,
     extension: &Extension,
     facts: &Facts,
 ) {
+    let kind = Kind::of(&extension.extn_id);
+    let is_usage = matches!(kind, Some(Kind::KeyUsage));
+    let is_constraints = matches!(kind, Some(Kind::BasicConstraints));
+    let has_length = is_constraints && facts.has_path_length();
     let is_none = facts.is_no_authority();
-    let has_length = facts.has_path_length();
-    let length = "pathLenConstraint";
-    match Kind::of(&extension.extn_id) {
-        Some(Kind::KeyUsage) => add_each(
-            lines,
-            subject,
-            &[
-                (
-                    facts.signs() && is_none,
-                    "cert-sign-without-ca",
-                    "keyCertSign is set, but cA isn't",
-                    "RFC 5280 4.2.1.3",
-                    "",
-                ),
-                (
-                    matches!(extension.extn_value.as_bytes(), [3, 1, 0]),
-                    "key-usage-empty",
-                    "no bit of keyUsage is set",
-                    "RFC 5280 4.2.1.3",
-                    "",
-                ),
-            ],
-        ),
-        Some(Kind::BasicConstraints) => add_each(
-            lines,
-            subject,
-            &[
-                (
-                    facts.is_authority() && !extension.critical,
-                    "ca-not-critical",
-                    "basicConstraints of a CA aren't critical",
-                    "RFC 5280 4.2.1.9",
-                    "",
-                ),
-                (
-                    has_length && is_none,
-                    "path-length-without-ca",
-                    "there is a pathLenConstraint, but cA isn't set",
-                    "RFC 5280 4.2.1.9",
-                    length,
-                ),
-                (
-                    has_length && facts.uses.is_some() && !facts.signs(),
-                    "path-length-without-cert-sign",
-                    "there is a pathLenConstraint, but keyCertSign isn't set",
-                    "RFC 5280 4.2.1.9",
-                    length,
-                ),
-            ],
-        ),
-        Some(Kind::NameConstraints) => add_each(
-            lines,
-            subject,
-            &[(
-                is_none,
+    add_each(
+        lines,
+        subject,
+        &[
+            (
+                is_usage && facts.signs() && is_none,
+                "cert-sign-without-ca",
+                "keyCertSign is set, but cA isn't",
+                "RFC 5280 4.2.1.3",
+                "",
+            ),
+            (
+                is_usage && matches!(extension.extn_value.as_bytes(), [3, 1, 0]),
+                "key-usage-empty",
+                "no bit of keyUsage is set",
+                "RFC 5280 4.2.1.3",
+                "",
+            ),
+            (
+                is_constraints && facts.is_authority() && !extension.critical,
+                "ca-not-critical",
+                "basicConstraints of a CA aren't critical",
+                "RFC 5280 4.2.1.9",
+                "",
+            ),
+            (
+                has_length && is_none,
+                "path-length-without-ca",
+                "there is a pathLenConstraint, but cA isn't set",
+                "RFC 5280 4.2.1.9",
+                "pathLenConstraint",
+            ),
+            (
+                has_length && facts.uses.is_some() && !facts.signs(),
+                "path-length-without-cert-sign",
+                "there is a pathLenConstraint, but keyCertSign isn't set",
+                "RFC 5280 4.2.1.9",
+                "pathLenConstraint",
+            ),
+            (
+                matches!(kind, Some(Kind::NameConstraints)) && is_none,
                 "name-constraints-without-ca",
                 "there are nameConstraints, but cA isn't set",
                 "RFC 5280 4.2.1.10",
                 "",
-            )],
-        ),
-        _ => {}
-    }
+            ),
+        ],
+    );
 }
 
 /// Adds the remarks on a certificate: the violations of RFC 5280 that no rule of path validation

@@ -190,11 +190,11 @@ fn add_error_path(lines: &mut Lines, offset: u64, way: &ErrorPath, wanted: &[Par
 }
 
 // Adds the type at the beginning of these bytes, where another type is expected.
-fn add_other_type(lines: &mut Lines, before: &str, rest: &[u8]) {
+fn add_other_type(lines: &mut Lines, rest: &[u8]) {
     match (Tag::peek(rest), unsupported_type(rest)) {
-        (Ok(tag), _) => lines.show(before, tag, ""),
+        (Ok(tag), _) => lines.show(": ", tag, ""),
         (Err(_), "") => {}
-        (Err(_), name) => lines.show(before, name, ""),
+        (Err(_), name) => lines.show(": ", name, ""),
     }
 }
 
@@ -218,8 +218,7 @@ fn add_kind(lines: &mut Lines, octets: &[u8], kind: ErrorKind, way: &ErrorPath) 
     let (words, section) = words_of(kind, rest, content, way.name(), way.around());
     lines.show("", kind, words);
     match kind {
-        ErrorKind::TagUnexpected => add_other_type(lines, " than ", rest),
-        ErrorKind::TrailingData => add_other_type(lines, ": ", rest),
+        ErrorKind::TagUnexpected | ErrorKind::TrailingData => add_other_type(lines, rest),
         _ => {}
     }
     section

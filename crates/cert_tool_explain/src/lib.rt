@@ -60,7 +60,7 @@ pub mod desk_bundle {
 /// The items of `cert_desk_checking` that the crates above use.
 pub mod desk_checking {
     pub use cert_desk_checking::{
-        Anchor, AnchorsError, Outcome, anchors_in, anchors_line, chain_lines, find_outcome,
+        Anchor, AnchorsError, Outcome, anchors_in, anchors_line, chain_lines, find_validated,
         judge_each, limit_in, number_in, read_anchors, read_stream, status_of, verdict_line,
     };
 }

@@ -126,91 +126,77 @@ impl EntryFacts {
     }
 }
 
-// Adds a remark on the entry with this number, if there is one.
-fn add_entry_remark(
-    lines: &mut Lines,
-    subject: &Subject<'_>,
-    number: Option<usize>,
-    words: [&'static str; 4],
-) {
+// A remark on entries: the number of the first entry that it is about, if there is one, its
+// identifier, its text, the section that the entry violates, and the field of the entry.
+type EntryRemark = (
+    Option<usize>,
+    &'static str,
+    &'static str,
+    &'static str,
+    &'static str,
+);
+
+// Adds a remark on entries, if it is about one.
+fn add_entry_remark(lines: &mut Lines, subject: &Subject<'_>, remark: EntryRemark) {
+    let (number, identifier, text, section, field) = remark;
     let Some(number) = number else {
         return;
     };
-    let [identifier, text, section, path] = words;
     let list = subject.place_of("revokedCertificates");
     let place = Inside::of(subject.octets, list).nth(number);
     let entry = subject.at(place, Node::RevokedCertificate, "revokedCertificates");
-    add_each(lines, &entry, &[(true, identifier, text, section, path)]);
+    add_each(lines, &entry, &[(true, identifier, text, section, field)]);
 }
 
 // Adds the remarks on the entries (RFC 5280 5.1.2.6, 5.3).
 fn add_entry_remarks(lines: &mut Lines, subject: &Subject<'_>, facts: &EntryFacts) {
-    add_entry_remark(
-        lines,
-        subject,
-        facts.wrong_serial,
-        [
+    let remarks: [EntryRemark; 6] = [
+        (
+            facts.wrong_serial,
             "entry-serial-number",
             "an entry's serial number isn't positive, or has more than 20 bytes",
             "RFC 5280 4.1.2.2",
             "userCertificate",
-        ],
-    );
-    add_entry_remark(
-        lines,
-        subject,
-        facts.long_date,
-        [
+        ),
+        (
+            facts.long_date,
             "date-generalized",
             "the date of an entry is a GeneralizedTime before 2050",
             "RFC 5280 5.1.2.6",
             "revocationDate",
-        ],
-    );
-    add_entry_remark(
-        lines,
-        subject,
-        facts.empty_extensions,
-        [
+        ),
+        (
+            facts.empty_extensions,
             "extensions-empty",
             "the list of an entry's extensions is empty",
             "RFC 5280 5.1",
             "crlEntryExtensions",
-        ],
-    );
-    add_entry_remark(
-        lines,
-        subject,
-        facts.critical_reason,
-        [
+        ),
+        (
+            facts.critical_reason,
             "extension-critical",
             "reasonCode of an entry is critical",
             "RFC 5280 5.3.1",
             "crlEntryExtensions",
-        ],
-    );
-    add_entry_remark(
-        lines,
-        subject,
-        facts.critical_date,
-        [
+        ),
+        (
+            facts.critical_date,
             "extension-critical",
             "invalidityDate of an entry is critical",
             "RFC 5280 5.3.2",
             "crlEntryExtensions",
-        ],
-    );
-    add_entry_remark(
-        lines,
-        subject,
-        facts.issuer_at_will,
-        [
+        ),
+        (
+            facts.issuer_at_will,
             "extension-not-critical",
             "certificateIssuer of an entry isn't critical",
             "RFC 5280 5.3.3",
             "crlEntryExtensions",
-        ],
-    );
+        ),
+    ];
+    for remark in &remarks {
+        add_entry_remark(lines, subject, *remark);
+    }
 }
 
 // Adds the remarks on the dates (RFC 5280 5.1.2.4, 5.1.2.5).

@@ -6,6 +6,7 @@ use crate::remark_lines::end_remark;
 use cert_desk_checking::desk_bundle::Bundle;
 use cert_desk_checking::desk_rules::{KeptRules, Reason, Rule};
 use cert_desk_checking::reason_of;
+use cert_tool_describe::cert_kinds::ExtensionKind as Kind;
 use cert_tool_describe::cert_parts::Extension;
 use cert_tool_describe::content_fault;
 use cert_tool_describe::oid::ObjectIdentifier;
@@ -76,6 +77,18 @@ fn add_twins(
     "RFC 5280 4.2"
 }
 
+// Returns whether the certificate has basicConstraints that can't be decoded.
+fn has_malformed_constraints(lines: &mut Lines, place: &ChainEntry<'_>) -> bool {
+    for extension in place.extensions() {
+        if let Some(Kind::BasicConstraints) = Kind::of(&extension.extn_id) {
+            if content_fault(lines.alloc, extension).is_some() {
+                return true;
+            }
+        }
+    }
+    false
+}
+
 // Adds a reason. Returns the section that it violates.
 fn add_reason(
     lines: &mut Lines,
@@ -91,7 +104,12 @@ fn add_reason(
         },
         Reason::Twins { first, second } => add_twins(lines, place, first, second),
         Reason::NoConstraints => {
-            lines.push("it has no basicConstraints with cA");
+            let is_malformed = has_malformed_constraints(lines, place);
+            lines.push(if is_malformed {
+                "its basicConstraints can't be decoded"
+            } else {
+                "it has no basicConstraints with cA"
+            });
             "RFC 5280 6.1.4 (k)"
         }
         Reason::PathLength { place } => {

@@ -31,11 +31,14 @@ impl SignedAnswers {
         })
     }
 
-    // Adds whether any answer is about these signed bytes.
-    pub(crate) fn add(&self, lines: &mut Lines, octets: &[u8]) {
+    // Adds whether any answer is about these signed bytes. `has_issuer` says whether there is a key
+    // under which an answer was looked up.
+    pub(crate) fn add(&self, lines: &mut Lines, octets: &[u8], has_issuer: bool) {
         begin_detail(lines);
         if self.count == 0 {
             lines.push("there are no answers");
+        } else if !has_issuer {
+            lines.push("no trust anchor has the issuer's name, so no answer was looked up");
         } else if self.signed.contains_key(octets) {
             lines.push("an answer has these signed bytes, but another key or signature");
         } else {

@@ -15,7 +15,7 @@ pub(crate) const PEM_STREAM: &str =
     "the file is PEM, not DER; to convert a certificate: `openssl x509 -in FILE -outform DER`";
 
 // The message for certificates in the order of TLS.
-pub(crate) const LEAF_FIRST: &str =
+const LEAF_FIRST: &str =
     "the certificates are in the order of TLS (the server's first); `cert_tool reverse FILE` \
      reverses them";
 

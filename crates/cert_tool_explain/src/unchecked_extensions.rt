@@ -5,28 +5,36 @@ use cert_tool_describe::cert_kinds::ExtensionKind as Kind;
 use cert_tool_describe::cert_parts::Extension;
 use cert_tool_describe::tool_lines::Lines;
 
-// Returns whether no rule checks an extension: name constraints, policies (RFC 5280 4.2.1.4,
-// 4.2.1.5, 4.2.1.10, 4.2.1.11, 4.2.1.14), and the key usage of the end entity.
-fn is_unchecked(extension: &Extension, is_last: bool) -> bool {
-    match Kind::of(&extension.extn_id) {
+// Returns whether an extension is about policies (RFC 5280 4.2.1.4, 4.2.1.5, 4.2.1.11, 4.2.1.14),
+// which neither the rules nor `--strict` check.
+pub(crate) fn is_of_policies(extension: &Extension) -> bool {
+    matches!(
+        Kind::of(&extension.extn_id),
         Some(
-            Kind::NameConstraints
-            | Kind::CertificatePolicies
-            | Kind::PolicyMappings
-            | Kind::PolicyConstraints
-            | Kind::InhibitAnyPolicy,
-        ) => true,
-        Some(Kind::KeyUsage) => is_last,
-        _ => false,
+            Kind::CertificatePolicies
+                | Kind::PolicyMappings
+                | Kind::PolicyConstraints
+                | Kind::InhibitAnyPolicy
+        )
+    )
+}
+
+// Returns whether an extension isn't checked. `--strict` checks name constraints (RFC 5280
+// 4.2.1.10) and the key usage of the end entity.
+fn is_unchecked(extension: &Extension, is_last: bool, is_strict: bool) -> bool {
+    match Kind::of(&extension.extn_id) {
+        Some(Kind::NameConstraints) => !is_strict,
+        Some(Kind::KeyUsage) => is_last && !is_strict,
+        _ => is_of_policies(extension),
     }
 }
 
-// Adds which extensions of a certificate no rule checks, if there are any.
-pub(crate) fn add_unchecked_extensions(lines: &mut Lines, place: &ChainEntry<'_>) {
+// Adds which extensions of a certificate aren't checked, if there are any.
+pub(crate) fn add_unchecked_extensions(lines: &mut Lines, place: &ChainEntry<'_>, is_strict: bool) {
     let is_last = place.number.saturating_add(1) == place.bundle.len();
     let mut before = "";
     for extension in place.extensions() {
-        if is_unchecked(extension, is_last) {
+        if is_unchecked(extension, is_last, is_strict) {
             if before.is_empty() {
                 lines.entry("not judged:");
                 lines.key("unjudged");

@@ -20,7 +20,8 @@ is_dot octet = octet == 46
 abbrev pub is_name_octet : ℕ → Bool
 is_name_octet octet = is_ascii_alphanumeric octet || (octet == 45 || octet == 95)
 
--- A label: 1 to 63 of these characters (RFC 1034 3.1, RFC 1123 2.1).
+-- A label: 1 to 63 of these characters (RFC 1034 3.1). Unlike in RFC 1123 2.1, it may have `_`, and
+-- `-` at either end.
 abbrev pub is_label : List ℕ → Bool
 is_label label =
     nat_lt 0 (length label) && (nat_le (length label) 63 && list_all is_name_octet label)

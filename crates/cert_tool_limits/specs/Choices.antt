@@ -1,5 +1,5 @@
 -- Files of trust anchors, with all fields of each.
-use Rattle.std.specs.Prelude.{◌≡◌, ℕ, List, drop, Result, Ok}
+use Rattle.std.specs.Prelude.{◌≡◌, ℕ, List, Result, Ok}
 use Rattle.x509_cert_anchors.specs.Anchors.{PlainAnchor as PlainChoice}
 use Rattle.cert_desk_checking.specs.declared.anchor_fault.AnchorFault.{AnchorFault}
 use Rattle.cert_desk_checking.specs.declared.anchor_fault.AnchorFault.TheVariants as faults
@@ -15,12 +15,6 @@ given_itself a = Ok a
 -- The bytes are the encodings of these trust anchors (RFC 5914 2), one after another.
 abbrev pub AreChoices : List ℕ → List PlainChoice → Type 0
 AreChoices octets choices = IsFileOf raw_choice given_itself octets choices
-
--- The reason why no trust anchor begins at the start.
-abbrev pub BeginsNoChoice : List ℕ → ℕ → AnchorsError → Type 0
-BeginsNoChoice octets start error = FailsBy
-    (λ offset fault. (offset ≡ start) × (fault ≡ faults.Malformed)
-    × BeginsNone raw_choice (drop start octets)) error
 
 -- The bytes begin with encodings of trust anchors, and the bytes at this offset, which is after
 -- them, aren't the encoding of one.

@@ -104,13 +104,14 @@ is_for_host host c = list_any (presents host) (extensions_of c)
 abbrev pub constrains_names : List PlainExtension → Bool
 constrains_names es = list_any (is_ce 30) es
 
--- The trust anchor keeps every rule of certificates, and has no nameConstraints.
+-- The trust anchor keeps the rules that `anchor_keeps` tests, and has no nameConstraints.
 abbrev pub is_strict : ℕ → List ℕ → List PlainCertificate → PlainChoice → Bool
 is_strict moment purpose cs a =
     list_all (λ rule. anchor_keeps rule moment purpose cs a) before_signature
     && not (constrains_names (anchor_extensions a))
 
--- The trust anchor issued the chain, keeps every rule of certificates, and has no nameConstraints.
+-- The trust anchor issued the chain, keeps the rules that `anchor_keeps` tests, and has no
+-- nameConstraints.
 abbrev pub is_strict_issuer : Answers → ℕ → List ℕ → List PlainCertificate → PlainChoice → Bool
 is_strict_issuer answers moment purpose cs a =
     issues_chain answers cs a && is_strict moment purpose cs a

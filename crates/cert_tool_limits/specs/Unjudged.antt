@@ -1,5 +1,5 @@
--- The JSON text (RFC 8259) of what no rule of path validation checks in a chain and in the trust
--- anchors that have the name of its issuer.
+-- The JSON text (RFC 8259) of what no rule of path validation, and no strict limit if they apply,
+-- checks in a chain and in the trust anchors that have the name of its issuer.
 use Rattle.std.specs.Prelude.{◌≡◌, ℕ, List, [], ◌∷◌, ◌++◌, codes, fold, Bool, true, false}
 use Rattle.std.specs.Prelude.{if◌then◌else◌, Option, Some, None, slice_get}
 use Rattle.std.specs.Option.{option_map, option_map_or}
@@ -18,21 +18,27 @@ use Rattle.cert_tool_limits.specs.declared.unjudged.Role.TheVariants as roles
 use Rattle.cert_tool_limits.specs.AnchorRules.{anchor_extensions, anchor_tbs}
 use Rattle.cert_tool_limits.specs.Choices.{AreChoices}
 
--- The name of an extension that no rule checks in any certificate: nameConstraints (RFC 5280
--- 4.2.1.10), or an extension on policies (4.2.1.4, 4.2.1.5, 4.2.1.11, 4.2.1.14).
-abbrev pub never_judged : PlainExtension → Option (List ℕ)
-never_judged e =
-    if is_ce 30 e then Some (codes "nameConstraints")
-    else if is_ce 32 e then Some (codes "certificatePolicies")
+-- The name of an extension on policies (RFC 5280 4.2.1.4, 4.2.1.5, 4.2.1.11, 4.2.1.14), which
+-- neither a rule nor a limit checks.
+abbrev pub policies_name : PlainExtension → Option (List ℕ)
+policies_name e =
+    if is_ce 32 e then Some (codes "certificatePolicies")
     else if is_ce 33 e then Some (codes "policyMappings")
     else if is_ce 36 e then Some (codes "policyConstraints")
     else if is_ce 54 e then Some (codes "inhibitAnyPolicy")
     else None
 
--- The name of an extension that no rule checks in a certificate with this role. The rules check
+-- The name of an extension that no rule checks in any certificate: nameConstraints (4.2.1.10), or
+-- an extension on policies.
+abbrev pub never_judged : PlainExtension → Option (List ℕ)
+never_judged e = if is_ce 30 e then Some (codes "nameConstraints") else policies_name e
+
+-- The name of an extension that isn't checked in a certificate with this role. The rules check
 -- keyUsage (4.2.1.3) only in issuers, and nothing but the name and the key in trust anchors, whose
--- basicConstraints (4.2.1.9) and extKeyUsage (4.2.1.12) have names here, too.
+-- basicConstraints (4.2.1.9) and extKeyUsage (4.2.1.12) have names here, too. The strict limits
+-- check all of these but the policies, for any role.
 abbrev pub unjudged_name : Role → PlainExtension → Option (List ℕ)
+unjudged_name roles.Strict e = policies_name e
 unjudged_name roles.Issuer e = never_judged e
 unjudged_name roles.EndEntity e =
     if is_ce 15 e then Some (codes "keyUsage") else never_judged e
@@ -55,7 +61,7 @@ and_item (c ∷ items) item = (c ∷ items) ++ codes "," ++ item
 abbrev pub and_name : List ℕ → Option (List ℕ) → List ℕ
 and_name items name = option_map_or (λ n. and_item items (quoted n)) name items
 
--- The elements so far and the names of those of the extensions that no rule checks.
+-- The elements so far and the names of those of the extensions that aren't checked.
 abbrev pub and_names : Role → List ℕ → List PlainExtension → List ℕ
 and_names role items es = fold (λ so_far e. and_name so_far (unjudged_name role e)) items es
 
@@ -63,21 +69,28 @@ and_names role items es = fold (λ so_far e. and_name so_far (unjudged_name role
 abbrev pub array : List ℕ → List ℕ
 array items = codes "[" ++ items ++ codes "]"
 
--- What no rule checks in a certificate of a chain.
-abbrev pub unjudged_in : Bool → PlainCertificate → List ℕ
-unjudged_in true c = array (and_names roles.EndEntity [] (extensions_of c))
-unjudged_in false c = array (and_names roles.Issuer [] (extensions_of c))
+-- The role of a certificate of a chain, which may be the last one, with or without strict limits.
+abbrev pub role_in : Bool → Bool → Role
+role_in true is_last = roles.Strict
+role_in false true = roles.EndEntity
+role_in false false = roles.Issuer
+
+-- What isn't checked in a certificate of a chain.
+abbrev pub unjudged_in : Bool → Bool → PlainCertificate → List ℕ
+unjudged_in strict is_last c = array (and_names (role_in strict is_last) [] (extensions_of c))
 
 -- The elements so far and one array for each certificate. The last one is the end entity's.
-abbrev pub and_certificates : List ℕ → List PlainCertificate → List ℕ
-and_certificates items [] = items
-and_certificates items (c ∷ []) = and_item items (unjudged_in true c)
-and_certificates items (c ∷ d ∷ cs) =
-    and_certificates (and_item items (unjudged_in false c)) (d ∷ cs)
+abbrev pub and_certificates : Bool → List ℕ → List PlainCertificate → List ℕ
+and_certificates strict items [] = items
+and_certificates strict items (c ∷ []) = and_item items (unjudged_in strict true c)
+and_certificates strict items (c ∷ d ∷ cs) =
+    and_certificates strict (and_item items (unjudged_in strict false c)) (d ∷ cs)
 
--- The validity period (4.1.2.5), if the trust anchor is a certificate, and then its extensions.
-abbrev pub unjudged_in_anchor : PlainChoice → List ℕ
-unjudged_in_anchor a = array (and_names roles.TrustAnchor
+-- What isn't checked in a trust anchor. Without strict limits, the validity period (4.1.2.5) comes
+-- first, if the trust anchor is a certificate.
+abbrev pub unjudged_in_anchor : Bool → PlainChoice → List ℕ
+unjudged_in_anchor true a = array (and_names roles.Strict [] (anchor_extensions a))
+unjudged_in_anchor false a = array (and_names roles.TrustAnchor
     (option_map_or (λ t. quoted (codes "validity")) (anchor_tbs a) []) (anchor_extensions a))
 
 -- The name of a trust anchor, if it has one (RFC 5914 2).
@@ -92,14 +105,15 @@ has_name_of c a = option_map_or (same_name Bound (issuer c)) (anchor_name a) fal
 
 -- The elements so far and one array for each trust anchor that has the name of the certificate's
 -- issuer.
-abbrev pub and_anchors : PlainCertificate → List ℕ → List PlainChoice → List ℕ
-and_anchors c items anchors = fold
-    (λ so_far a. if has_name_of c a then and_item so_far (unjudged_in_anchor a) else so_far)
+abbrev pub and_anchors : Bool → PlainCertificate → List ℕ → List PlainChoice → List ℕ
+and_anchors strict c items anchors = fold
+    (λ so_far a. if has_name_of c a then and_item so_far (unjudged_in_anchor strict a) else so_far)
     items anchors
 
 -- The arrays of the trust anchors that have the name of the first certificate's issuer.
-abbrev pub anchors_text : List PlainCertificate → List PlainChoice → List ℕ
-anchors_text cs anchors = option_map_or (λ c. and_anchors c [] anchors) (slice_get cs 0) []
+abbrev pub anchors_text : Bool → List PlainCertificate → List PlainChoice → List ℕ
+anchors_text strict cs anchors =
+    option_map_or (λ c. and_anchors strict c [] anchors) (slice_get cs 0) []
 
 -- The member `unjudged` of a JSON object, with the elements of its two arrays.
 abbrev pub unjudged_member : List ℕ → List ℕ → List ℕ
@@ -109,10 +123,11 @@ unjudged_member certificates anchors =
 
 -- The member `unjudged` of a JSON object: an array for each certificate, and one for each trust
 -- anchor that has the name of the first certificate's issuer.
-abbrev pub unjudged_text : List PlainCertificate → List PlainChoice → List ℕ
-unjudged_text cs anchors = unjudged_member (and_certificates [] cs) (anchors_text cs anchors)
+abbrev pub unjudged_text : Bool → List PlainCertificate → List PlainChoice → List ℕ
+unjudged_text strict cs anchors =
+    unjudged_member (and_certificates strict [] cs) (anchors_text strict cs anchors)
 
 -- The text is that member, for the trust anchors of a file.
-abbrev pub IsUnjudgedText : List ℕ → List PlainCertificate → List ℕ → Type 0
-IsUnjudgedText octets cs text = (anchors : List PlainChoice) × AreChoices octets anchors
-    × (text ≡ unjudged_text cs anchors)
+abbrev pub IsUnjudgedText : Bool → List ℕ → List PlainCertificate → List ℕ → Type 0
+IsUnjudgedText strict octets cs text = (anchors : List PlainChoice) × AreChoices octets anchors
+    × (text ≡ unjudged_text strict cs anchors)

@@ -1,4 +1,6 @@
-//! The demands on a trusted chain beyond the rules of path validation.
+//! The demands on a trusted chain beyond the rules of path validation. A demand is an option
+//! (`--host`, `--strict` or `--warn-days`), and a limit is what a chain breaks if it doesn't meet
+//! one.
 
 ghost use Rattle.std.specs.Prelude.{◌≡◌, ◌&&◌, ◌||◌, ◌-◌, length, map, not, slice_get};
 ghost use Rattle.std.specs.Prelude.{IfOk, IfSome};

@@ -11,7 +11,6 @@ mod key_uses;
 mod limit;
 mod name_constraints;
 mod unjudged;
-mod validating;
 
 pub use anchor_rules::anchors_limit;
 pub use choices::choices_in;
@@ -22,7 +21,6 @@ pub use key_uses::allows_purpose;
 pub use limit::Limit;
 pub use name_constraints::first_constraints;
 pub use unjudged::unjudged_text;
-pub use validating::find_validated;
 
 /// The items of `cert_desk_rules` that the crates above use.
 pub mod desk_rules {

@@ -1,6 +1,6 @@
-//! The JSON text of what no rule of path validation checks.
+//! The JSON text of what no rule of path validation, and no strict limit, checks.
 
-ghost use Rattle.std.specs.Prelude.{◌≡◌, [], IfOk, OnOk, string_bytes, map};
+ghost use Rattle.std.specs.Prelude.{◌≡◌, [], IfOk, OnOk, string_bytes, map, true};
 ghost use Rattle.std.specs.Option.{option_map};
 ghost use Rattle.x509_cert_anchors.specs.AnchorViews.{trust_anchor_plain};
 ghost use Rattle.x509_cert_anchors.specs.CertCertificates.Certificates.{raw_certificate};
@@ -13,8 +13,8 @@ ghost use Rattle.x509_cert_anchors.specs.Oid.Bound.{Bound};
 ghost use Rattle.cert_tool_limits.specs.Unjudged.{IsUnjudgedText, and_anchors, and_certificates};
 ghost use Rattle.cert_tool_limits.specs.Unjudged.{and_item, and_names, anchor_name, has_name_of};
 ghost use Rattle.cert_tool_limits.specs.Unjudged.{never_judged, quoted, unjudged_in, unjudged_name};
-ghost use Rattle.cert_tool_limits.specs.Unjudged.{anchors_text, unjudged_in_anchor};
-ghost use Rattle.cert_tool_limits.specs.Unjudged.{unjudged_member};
+ghost use Rattle.cert_tool_limits.specs.Unjudged.{anchors_text, policies_name, role_in};
+ghost use Rattle.cert_tool_limits.specs.Unjudged.{unjudged_in_anchor, unjudged_member};
 
 use crate::anchor_rules::{extensions_of as anchor_extensions, signed_of};
 use crate::choices::choices_in;
@@ -28,21 +28,19 @@ use std::alloc::{AllocError, Global};
 use x509_cert_anchors::TrustAnchorChoice;
 use x509_cert_anchors::cert_names::Name;
 
-// The role of a certificate in path validation.
+// The role of a certificate in path validation, or any role under the strict limits.
 #[derive(Clone, Copy)]
 enum Role {
+    Strict,
     TrustAnchor,
     Issuer,
     EndEntity,
 }
 
-// Returns the name of an extension that no rule checks in any certificate.
-fn never_judged(extension: &Extension) -> Option<&'static str>
-    ensures { option_map (λ name. name.now) result ≡ never_judged (extension_plain extension.now) }
+// Returns the name of an extension on policies, which nothing checks.
+fn policies_name(extension: &Extension) -> Option<&'static str>
+    ensures { option_map (λ name. name.now) result ≡ policies_name (extension_plain extension.now) }
 {
-    if is_ce(extension, 30) {
-        return Some("nameConstraints");
-    }
     if is_ce(extension, 32) {
         return Some("certificatePolicies");
     }
@@ -58,12 +56,23 @@ fn never_judged(extension: &Extension) -> Option<&'static str>
     None
 }
 
-// Returns the name of an extension that no rule checks in a certificate with this role.
+// Returns the name of an extension that no rule checks in any certificate.
+fn never_judged(extension: &Extension) -> Option<&'static str>
+    ensures { option_map (λ name. name.now) result ≡ never_judged (extension_plain extension.now) }
+{
+    if is_ce(extension, 30) {
+        return Some("nameConstraints");
+    }
+    policies_name(extension)
+}
+
+// Returns the name of an extension that isn't checked in a certificate with this role.
 fn unjudged_name(extension: &Extension, role: Role) -> Option<&'static str>
     ensures { option_map (λ name. name.now) result
         ≡ unjudged_name role (extension_plain extension.now) }
 {
     match role {
+        Role::Strict => return policies_name(extension),
         Role::Issuer => {}
         Role::EndEntity => {
             if is_ce(extension, 15) {
@@ -105,7 +114,7 @@ fn add_name(alloc: Global, items: &mut String, name: &str) -> Result<(), AllocEr
     add_item(items, item.as_str())
 }
 
-// Adds the names of those of the extensions that no rule checks.
+// Adds the names of those of the extensions that aren't checked.
 fn add_names(
     alloc: Global,
     items: &mut String,
@@ -123,20 +132,30 @@ fn add_names(
     Ok(())
 }
 
-// Returns what no rule checks in a certificate of a chain, as a JSON array.
+// Returns the role of a certificate of a chain.
+fn role_in(is_strict: bool, is_last: bool) -> Role
+    ensures { result ≡ role_in is_strict is_last }
+{
+    if is_strict {
+        return Role::Strict;
+    }
+    if is_last {
+        return Role::EndEntity;
+    }
+    Role::Issuer
+}
+
+// Returns what isn't checked in a certificate of a chain, as a JSON array.
 fn unjudged_in(
     alloc: Global,
     certificate: &CertificateInner<Raw>,
+    is_strict: bool,
     is_last: bool,
 ) -> Result<String, AllocError>
     ensures { IfOk result (λ text. string_bytes text
-        ≡ unjudged_in is_last (certificate_plain certificate.now)) }
+        ≡ unjudged_in is_strict is_last (certificate_plain certificate.now)) }
 {
-    let role = if is_last {
-        Role::EndEntity
-    } else {
-        Role::Issuer
-    };
+    let role = role_in(is_strict, is_last);
     let mut items = String::new(alloc);
     add_names(alloc, &mut items, extensions_of(certificate), role)?;
     let items = items.as_str();
@@ -144,25 +163,43 @@ fn unjudged_in(
 }
 
 // Returns the arrays of the certificates of a chain.
-fn certificates_text(alloc: Global, bundle: &Bundle) -> Result<String, AllocError>
+fn certificates_text(alloc: Global, bundle: &Bundle, is_strict: bool) -> Result<String, AllocError>
     ensures { IfOk result (λ text. string_bytes text
-        ≡ and_certificates [] bundle.now.certificates) }
+        ≡ and_certificates is_strict [] bundle.now.certificates) }
 {
     let len = bundle.len();
     let mut items = String::new(alloc);
     for place in 0..len {
         let entry = bundle.get(place).unwrap();
-        let item = unjudged_in(alloc, entry.certificate, place + 1 == len)?;
+        let item = unjudged_in(alloc, entry.certificate, is_strict, place + 1 == len)?;
         add_item(&mut items, item.as_str())?;
     }
     Ok(items)
 }
 
-// Returns what no rule checks in a trust anchor, as a JSON array.
-fn unjudged_in_anchor(alloc: Global, anchor: &TrustAnchorChoice<Raw>) -> Result<String, AllocError>
+// Returns what the strict limits leave unchecked in a trust anchor, as a JSON array.
+fn strict_in_anchor(alloc: Global, anchor: &TrustAnchorChoice<Raw>) -> Result<String, AllocError>
     ensures { IfOk result (λ text. string_bytes text
-        ≡ unjudged_in_anchor (trust_anchor_plain anchor.now)) }
+        ≡ unjudged_in_anchor true (trust_anchor_plain anchor.now)) }
 {
+    let mut items = String::new(alloc);
+    add_names(alloc, &mut items, anchor_extensions(anchor), Role::Strict)?;
+    let items = items.as_str();
+    format!(in alloc; "[{items}]")
+}
+
+// Returns what isn't checked in a trust anchor, as a JSON array.
+fn unjudged_in_anchor(
+    alloc: Global,
+    anchor: &TrustAnchorChoice<Raw>,
+    is_strict: bool,
+) -> Result<String, AllocError>
+    ensures { IfOk result (λ text. string_bytes text
+        ≡ unjudged_in_anchor is_strict (trust_anchor_plain anchor.now)) }
+{
+    if is_strict {
+        return strict_in_anchor(alloc, anchor);
+    }
     let mut items = String::new(alloc);
     if signed_of(anchor).is_some() {
         add_name(alloc, &mut items, "validity")?;
@@ -209,16 +246,17 @@ fn anchors_text(
     alloc: Global,
     certificate: &CertificateInner<Raw>,
     anchors: &[TrustAnchorChoice<Raw>],
+    is_strict: bool,
 ) -> Result<String, AllocError>
     requires { IsValid (raw_certificate Bound) (certificate_plain certificate.now) }
     ensures { IfOk result (λ text. string_bytes text
-        ≡ and_anchors (certificate_plain certificate.now) []
+        ≡ and_anchors is_strict (certificate_plain certificate.now) []
         (map trust_anchor_plain anchors.now)) }
 {
     let mut items = String::new(alloc);
     for anchor in anchors {
         if has_name_of(certificate, anchor) {
-            let item = unjudged_in_anchor(alloc, anchor)?;
+            let item = unjudged_in_anchor(alloc, anchor, is_strict)?;
             add_item(&mut items, item.as_str())?;
         }
     }
@@ -230,12 +268,13 @@ fn first_anchors_text(
     alloc: Global,
     bundle: &Bundle,
     anchors: &[TrustAnchorChoice<Raw>],
+    is_strict: bool,
 ) -> Result<String, AllocError>
     ensures { IfOk result (λ text. string_bytes text
-        ≡ anchors_text bundle.now.certificates (map trust_anchor_plain anchors.now)) }
+        ≡ anchors_text is_strict bundle.now.certificates (map trust_anchor_plain anchors.now)) }
 {
     match bundle.get(0) {
-        Some(first) => anchors_text(alloc, first.certificate, anchors),
+        Some(first) => anchors_text(alloc, first.certificate, anchors, is_strict),
         None => Ok(String::new(alloc)),
     }
 }
@@ -248,24 +287,30 @@ fn unjudged_member(alloc: Global, certificates: &str, anchors: &str) -> Result<S
     format!(in alloc; ",\"unjudged\":{{\"certificates\":[{certificates}],\"anchors\":[{anchors}]}}")
 }
 
-/// Returns the member `unjudged` of a JSON object: what no rule checks in each certificate of a
+/// Returns the member `unjudged` of a JSON object: what isn't checked in each certificate of a
 /// chain, and in each trust anchor of a file that has the name of the first certificate's issuer.
-/// `octets` is the file of the trust anchors under which the chain was validated.
+/// `octets` is the file of the trust anchors under which the chain was validated. If `is_strict`,
+/// the strict limits check the chain, too.
 ///
 /// # Errors
 ///
 /// Fails if an allocation fails.
-pub fn unjudged_text(alloc: Global, octets: &[u8], bundle: &Bundle) -> Result<String, AllocError>
+pub fn unjudged_text(
+    alloc: Global,
+    octets: &[u8],
+    bundle: &Bundle,
+    is_strict: bool,
+) -> Result<String, AllocError>
     requires { Fits octets.now }
     ensures { IfOk result (λ text.
-        IsUnjudgedText octets.now bundle.now.certificates (string_bytes text)) }
+        IsUnjudgedText is_strict octets.now bundle.now.certificates (string_bytes text)) }
 {
     // The bytes were decoded before, so the only possible error is that memory runs out.
     let Ok(anchors) = choices_in(alloc, octets) else {
         return Err(AllocError);
     };
-    let certificates = certificates_text(alloc, bundle)?;
-    let named = first_anchors_text(alloc, bundle, anchors.as_slice())?;
+    let certificates = certificates_text(alloc, bundle, is_strict)?;
+    let named = first_anchors_text(alloc, bundle, anchors.as_slice(), is_strict)?;
     let (of_certificates, of_anchors) = (certificates.as_str(), named.as_str());
     let text = unjudged_member(alloc, of_certificates, of_anchors)?;
     Ok(text)

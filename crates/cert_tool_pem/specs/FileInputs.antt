@@ -64,10 +64,13 @@ module _ {R : Type 0} (takes : R → List ℕ → R → Type 0) where
   pub takes_nothing : (a : FileInput R) → Takes takes a [] a
   takes_nothing a = nothing_from (front_of a) (rest_of a)
 
-  module _ (in_turn : (a b c : R) (first second : List ℕ) → takes a first b → takes b second c → takes a (first ++ second) c) where
+  module _ (in_turn : (a b c : R) (first second : List ℕ) → takes a first b → takes b second c
+      → takes a (first ++ second) c) where
     in_turn_from : (f g h : List ℕ) (a b c : Option R) (first second : List ℕ)
-        → TakesFrom takes f a first g b → TakesFrom takes g b second h c → TakesFrom takes f a (first ++ second) h c
-    in_turn_from f g h None None None first second p q = p ∙ ap (λ x. first ++ x) q ∙ sym (append_assoc first second h)
+        → TakesFrom takes f a first g b → TakesFrom takes g b second h c
+        → TakesFrom takes f a (first ++ second) h c
+    in_turn_from f g h None None None first second p q =
+        p ∙ ap (λ x. first ++ x) q ∙ sym (append_assoc first second h)
     in_turn_from f g h (Some a) (Some b) (Some c) first second (inl p) (inl q) =
         inl (p.0 ∙ ap (λ x. first ++ x) q.0 ∙ sym (append_assoc first second h), q.1 ∙ p.1)
     in_turn_from f g h (Some a) (Some b) (Some c) first second (inl p) (inr q) =
@@ -88,7 +91,8 @@ module _ {R : Type 0} (takes : R → List ℕ → R → Type 0) where
     in_turn_from f g h (Some a) (Some b) (Some c) first second (inr p) (inr q) =
         inr (
           p.0 ++ q.0,
-          ap (λ x. x ++ second) p.1 ∙ append_assoc f p.0 second ∙ ap (λ x. f ++ (p.0 ++ x)) (q.1 ∙ ap (λ x. x ++ q.0) p.2),
+          ap (λ x. x ++ second) p.1 ∙ append_assoc f p.0 second
+              ∙ ap (λ x. f ++ (p.0 ++ x)) (q.1 ∙ ap (λ x. x ++ q.0) p.2),
           q.2,
           in_turn a b c p.0 q.0 p.3 q.3,
         )
@@ -97,6 +101,8 @@ module _ {R : Type 0} (takes : R → List ℕ → R → Type 0) where
     in_turn_from f g h None None (Some c) first second p q = absurd q
     in_turn_from f g h (Some a) (Some b) None first second p q = absurd q
 
-    pub takes_in_turn : (a b c : FileInput R) (first second : List ℕ) → Takes takes a first b → Takes takes b second c → Takes takes a (first ++ second) c
+    pub takes_in_turn : (a b c : FileInput R) (first second : List ℕ) → Takes takes a first b
+        → Takes takes b second c → Takes takes a (first ++ second) c
     takes_in_turn a b c first second p q =
-        in_turn_from (front_of a) (front_of b) (front_of c) (rest_of a) (rest_of b) (rest_of c) first second p q
+        in_turn_from (front_of a) (front_of b) (front_of c) (rest_of a) (rest_of b) (rest_of c)
+        first second p q

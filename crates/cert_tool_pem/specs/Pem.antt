@@ -56,9 +56,15 @@ abbrev pub label_after : List ℕ → List ℕ → Option (List ℕ)
 label_after start line =
     if starts_with nat_eq line start then closed (drop (length start) line) else None
 
--- The label of the block that a line begins (RFC 7468 3: preeb).
+-- The line without the byte order mark of UTF-8 (RFC 3629 6) at its start.
+abbrev pub after_mark : List ℕ → List ℕ
+after_mark line =
+    if starts_with nat_eq line (239 ∷ 187 ∷ 191 ∷ []) then drop 3 line else line
+
+-- The label of the block that a line begins (RFC 7468 3: preeb). A byte order mark may come before
+-- it, as some editors write one at the start of a file.
 unfoldable pub begun_by : List ℕ → Option (List ℕ)
-begun_by line = label_after (codes "-----BEGIN ") (trimmed line)
+begun_by line = label_after (codes "-----BEGIN ") (after_mark (trimmed line))
 
 -- The label of the block that a line ends (RFC 7468 3: posteb).
 unfoldable pub ended_by : List ℕ → Option (List ℕ)

@@ -29,6 +29,14 @@ impl<I> FileInput<I> {
         }
     }
 
+    /// Returns whether there are no bytes in memory. Then an input that [`input_of`] returns has no
+    /// bytes at all, unless it has to contain lines.
+    ///
+    /// [`input_of`]: crate::input_of
+    pub fn is_empty(&self) -> bool {
+        self.front.is_empty()
+    }
+
     /// Returns the other input, if there is one.
     pub fn rest(&self) -> Option<&I>
         ensures { option_map (λ rest. rest.now) result ≡ rest_of self.now }

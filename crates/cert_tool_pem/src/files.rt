@@ -50,7 +50,8 @@ fn first_of<I: Input>(input: &mut I) -> Result<Option<u8>, DeviceError>
 // Reads the remaining bytes of a file after the first one.
 fn read_text<I: Input>(alloc: Global, first: u8, input: &mut I) -> Result<Vec<u8>, ReadAllError>
     ensures whole { IfOk result (λ text. (rest : List ℕ) × (text.items ≡ first ∷ rest)
-        × IsWhole (source I.takes I.is_ended I.failures input.old input.new) most_after_first rest) }
+        × IsWhole (source I.takes I.is_ended I.failures input.old input.new) most_after_first
+        rest) }
     ensures unread { IfErr result
         (IsUnread (source I.takes I.is_ended I.failures input.old input.new) most_after_first) }
 {

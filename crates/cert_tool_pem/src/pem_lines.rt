@@ -1,9 +1,9 @@
 //! The lines of a text, and the lines that begin and end blocks (RFC 7468 3).
 ghost use Rattle.std.specs.Prelude.{◌≡◌, map, option_map, IfOk};
 ghost use Rattle.std.specs.List.{list_any};
-ghost use Rattle.cert_tool_pem.specs.Pem.{after_blanks, before_blanks, begun_by, closed, ended_by};
-ghost use Rattle.cert_tool_pem.specs.Pem.{eol_of, is_blank, is_boundary, label_after, lines_of};
-ghost use Rattle.cert_tool_pem.specs.Pem.{parts_of, trimmed};
+ghost use Rattle.cert_tool_pem.specs.Pem.{after_blanks, after_mark, before_blanks, begun_by, closed};
+ghost use Rattle.cert_tool_pem.specs.Pem.{ended_by, eol_of, is_blank, is_boundary, label_after};
+ghost use Rattle.cert_tool_pem.specs.Pem.{lines_of, parts_of, trimmed};
 
 use std::alloc::{AllocError, Global};
 
@@ -12,6 +12,9 @@ const BEGIN: &[u8] = b"-----BEGIN ";
 const END: &[u8] = b"-----END ";
 
 const DASHES: &[u8] = b"-----";
+
+// The byte order mark of UTF-8 (RFC 3629 6).
+const MARK: &[u8] = b"\xEF\xBB\xBF";
 
 // Returns the byte that ends the lines of a text.
 fn eol_of(text: &[u8]) -> u8
@@ -98,12 +101,22 @@ fn label_after<'a>(start: &[u8], line: &'a [u8]) -> Option<&'a [u8]>
     closed(&line[start.len()..])
 }
 
+// Returns a line without the byte order mark at its start.
+fn after_mark(line: &[u8]) -> &[u8]
+    ensures { result.now ≡ after_mark line.now }
+{
+    if !line.starts_with(MARK) {
+        return line;
+    }
+    &line[MARK.len()..]
+}
+
 // Returns the label of the block that a line begins.
 #[tactic(auto, unfolding(crate::specs::Pem::begun_by))]
 pub(crate) fn begun_by(line: &[u8]) -> Option<&[u8]>
     ensures { option_map (λ label. label.now) result ≡ begun_by line.now }
 {
-    label_after(BEGIN, trimmed(line))
+    label_after(BEGIN, after_mark(trimmed(line)))
 }
 
 // Returns the label of the block that a line ends.

@@ -14,7 +14,7 @@ returns-in-Ok g c =
     let answers = only_yes_to (map answer_plain c.args.answers.items) in
     inl (
       c.as_slice.result.now,
-      subst (λ octets. IsWhole anchors most_octets octets) (sym c.as_slice.ensures.value) c.in-Ok.ensures.whole,
+      subst (λ octets. IsWhole anchors most_octets octets) (sym c.as_slice.ensures.value) c.in-Ok.ensures.read,
       subst (λ before. IsExplainedOf c.as_slice.result.now stream out (sink g.E.Output.gives g.E.Output.failures before c.explain_under.new.err) c.args.terms.now answers c.explain_under.result) c.in-Ok.ensures.untold
           c.explain_under.ensures,
     )

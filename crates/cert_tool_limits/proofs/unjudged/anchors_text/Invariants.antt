@@ -7,6 +7,6 @@ use Rattle.cert_tool_limits.proofs.unjudged.anchors_text.Given as goal
 
 abbrev pub invariant-loop-anchor : goal.invariant-loop-anchor
 invariant-loop-anchor l = record {
-  left : and_anchors (certificate_plain l.certificate) (string_bytes l.items) (map trust_anchor_plain (drop l.anchor-index l.anchors))
-      ≡ and_anchors (certificate_plain l.certificate) [] (map trust_anchor_plain l.anchors);
+  left : and_anchors l.is_strict (certificate_plain l.certificate) (string_bytes l.items) (map trust_anchor_plain (drop l.anchor-index l.anchors))
+      ≡ and_anchors l.is_strict (certificate_plain l.certificate) [] (map trust_anchor_plain l.anchors);
 }

@@ -8,8 +8,8 @@ pub returns : goal.returns
 returns c =
     let cs = c.args.bundle.now.certificates in
     let certificates = c.as_str-of_certificates.ensures.value ∙ c.in_ok-certificates.ensures in
-    let named = c.as_str-of_anchors.ensures.value ∙ c.in_ok-named.ensures ∙ ap (λ anchors. anchors_text cs (map trust_anchor_plain anchors)) c.as_slice.ensures.value in (
+    let named = c.as_str-of_anchors.ensures.value ∙ c.in_ok-named.ensures ∙ ap (λ anchors. anchors_text c.args.is_strict cs (map trust_anchor_plain anchors)) c.as_slice.ensures.value in (
       map trust_anchor_plain c.in-Ok.anchors.items,
       c.in-Ok.ensures.read,
-      c.in_ok-text.ensures ∙ ap (λ w. unjudged_member w c.as_str-of_anchors.result.now) certificates ∙ ap (unjudged_member (and_certificates [] cs)) named,
+      c.in_ok-text.ensures ∙ ap (λ w. unjudged_member w c.as_str-of_anchors.result.now) certificates ∙ ap (unjudged_member (and_certificates c.args.is_strict [] cs)) named,
     )
