@@ -1,0 +1,84 @@
+//! BasicOcspResponse.
+
+ghost use Rattle.std.specs.Prelude.{refl};
+ghost use Rattle.der_core.specs.Grammar.{plain_option};
+
+use crate::response_data::ResponseData;
+use der_core::describing::{AsRecord, Described, FieldRow, RowUser, Rows};
+use der_core::{DecodeFields, Error, Explicit, Fields, Reader, Shaped, lend, read_row};
+use der_types::BitString;
+use std::alloc::Global;
+use x509_cert_reading::{AlgorithmIdentifier, CertificateInner, Raw};
+
+/// ```text
+/// BasicOCSPResponse ::= SEQUENCE {
+///     tbsResponseData          ResponseData,
+///     signatureAlgorithm       AlgorithmIdentifier,
+///     signature                BIT STRING,
+///     certs                [0] EXPLICIT SEQUENCE OF Certificate OPTIONAL }
+/// ```
+#[derive(Debug, Drop, PartialEq, Eq)]
+pub struct BasicOcspResponse {
+    pub tbs_response_data: ResponseData,
+    pub signature_algorithm: AlgorithmIdentifier,
+    pub signature: BitString,
+    pub certs: Option<Vec<CertificateInner<Raw>>>,
+}
+
+type Row = (
+    ResponseData,
+    (
+        AlgorithmIdentifier,
+        (
+            BitString,
+            (Option<Explicit<Vec<CertificateInner<Raw>>, 0>>, ()),
+        ),
+    ),
+);
+
+impl Described for BasicOcspResponse {
+    type By = AsRecord;
+}
+
+impl Fields for BasicOcspResponse {
+    ghost fields = { ⟦<Row as FieldRow>⟧.fields };
+
+    ghost fields_plain = { λ r. (
+      ⟦<ResponseData as Shaped>⟧.plain r.tbs_response_data,
+      (
+        ⟦<AlgorithmIdentifier as Shaped>⟧.plain r.signature_algorithm,
+        (
+          ⟦<BitString as Shaped>⟧.plain r.signature,
+          (plain_option ⟦<Vec<CertificateInner<Raw>> as Shaped>⟧.plain r.certs, tt),
+        ),
+      ),
+    ) };
+
+    ghost fields_written = { λ r. (
+      ⟦<ResponseData as Shaped>⟧.written r.tbs_response_data,
+      (
+        ⟦<AlgorithmIdentifier as Shaped>⟧.written r.signature_algorithm,
+        (
+          ⟦<BitString as Shaped>⟧.written r.signature,
+          (plain_option ⟦<Vec<CertificateInner<Raw>> as Shaped>⟧.written r.certs, tt),
+        ),
+      ),
+    ) };
+}
+
+impl<'a, R: Reader<'a>> DecodeFields<'a, R> for BasicOcspResponse {
+    fn decode_fields(alloc: Global, reader: &mut R) -> Result<BasicOcspResponse, Error> {
+        read_row!(alloc, reader; BasicOcspResponse {
+            tbs_response_data, signature_algorithm, signature, certs: explicit 0 optional,
+        })
+    }
+}
+
+impl Rows for BasicOcspResponse {
+    fn with_rows<U: RowUser>(&self, other: &Self, user: &mut U) -> U::Answer {
+        lend!(self, other, user;
+            tbs_response_data, signature_algorithm, signature, certs: explicit 0 optional)
+    }
+
+    ghost apart = { refl };
+}
