@@ -1,0 +1,11 @@
+-- What is lent are the alternatives of the two values.
+use Rattle.pki_cms.proofs.revocation_info_choice.RevocationInfoChoiceDerOrd.der_cmp.Goals as goal
+
+pub returns-clause-order : goal.returns-clause-order
+returns-clause-order c = c.cases_cmp.ensures.order _ _ c.cases.ensures c.cases-2.ensures
+
+pub returns-clause-exact : goal.returns-clause-exact
+returns-clause-exact c = c.cases_cmp.ensures.exact _ _ c.cases.ensures c.cases-2.ensures
+
+pub returns-clause-refused : goal.returns-clause-refused
+returns-clause-refused c = c.cases_cmp.ensures.refused _ _ c.cases.ensures c.cases-2.ensures

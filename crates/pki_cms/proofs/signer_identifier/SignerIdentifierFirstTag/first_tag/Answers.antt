@@ -1,0 +1,5 @@
+-- What is lent is the alternative of the value.
+use Rattle.pki_cms.proofs.signer_identifier.SignerIdentifierFirstTag.first_tag.Goals as goal
+
+pub returns : goal.returns
+returns c = c.cases_tag.ensures _ c.cases.ensures
