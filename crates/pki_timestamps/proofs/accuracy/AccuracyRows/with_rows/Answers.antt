@@ -1,0 +1,6 @@
+-- What is lent are the fields of the record.
+use Rattle.std.proofs.Common.{rules}
+use Rattle.pki_timestamps.proofs.accuracy.AccuracyRows.with_rows.Goals as goal
+
+pub returns : goal.returns
+returns g c = c.lend.ensures _ _ (search rules) (search rules)

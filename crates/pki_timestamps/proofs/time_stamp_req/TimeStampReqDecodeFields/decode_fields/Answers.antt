@@ -1,0 +1,8 @@
+-- A field with a default is decoded as `default_at` says.
+use Rattle.std.proofs.Common.{rules}
+use Rattle.der_core.specs.Grammar.{default_at}
+use Rattle.pki_timestamps.proofs.time_stamp_req.TimeStampReqDecodeFields.decode_fields.Goals as goal
+
+pub returns : goal.returns
+unfolding default_at
+returns g c = search rules
