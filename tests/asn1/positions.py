@@ -1,12 +1,12 @@
 #!/usr/bin/env python3
-"""Puts each type of the library wherever ASN.1 lets it stand, and compares the bytes with pyasn1's.
+"""Uses each type of the library in each place that ASN.1 has, and compares the bytes with pyasn1's.
 
     tests/asn1/positions.py [TYPE...]
 
 For each type, tools/asn1 writes a record with a field of the type, a SEQUENCE OF, a SET OF,
 explicit and implicit tags, OPTIONAL, and DEFAULT if it has one. A program decodes records that
 pyasn1 encoded, and encodes them again. It also decodes records whose SET OF is in the wrong order,
-and records with a default that is encoded, which it has to reject. `rt try` runs the program, in a
+and records in which a default is encoded; it has to reject these. `rt try` runs the program, in a
 temporary folder with copies of the crates: some 20 processor minutes for all types.
 """
 
@@ -39,7 +39,7 @@ def octets(*content):
 
 
 def named(number, content=b""):
-    """A value with the implicit tag [number]."""
+    """Encodes a value with the implicit tag [number]."""
     return tlv(0x80 + number, content)
 
 
@@ -79,7 +79,7 @@ def signed(part):
     return sequence(part, BY, bits(b"\0"))
 
 
-# Each type: its Rust type and the crate that it is imported from, the tags with which it begins,
+# Each type: its Rust type and the crate that it is imported from, the tags with which it can begin,
 # and values. A type without a tag of its own (CHOICE) has the mark "choice".
 LIBRARY = {
     "Cert": ("CertificateInner<Raw>", READING, "SEQUENCE", [signed(it) for it in PARTS]),
@@ -207,7 +207,7 @@ def has_default(name):
 
 
 def module_of(names):
-    """A module with a record for each type."""
+    """Returns a module with a record for each type."""
     records = []
     for name in names:
         fields = [f"one {name}", f"listed SEQUENCE OF {name}", f"members SET OF {name}",
@@ -223,13 +223,13 @@ def module_of(names):
 
 
 def outside(number, value):
-    """A value in an explicit tag."""
+    """Encodes a value in an explicit tag."""
     of = tag.Tag(tag.tagClassContext, tag.tagFormatConstructed, number)
     return encoder.encode(univ.Any(value).subtype(explicitTag=of))
 
 
 def inside(number, value):
-    """A value with an implicit tag in place of its own."""
+    """Encodes a value with an implicit tag in place of its own."""
     return bytes([0x80 | value[0] & 0x20 | number]) + value[1:]
 
 
@@ -240,7 +240,7 @@ def list_of(kind, values):
 
 
 def records_of(name):
-    """Yields records of a type, and the bytes that are expected, or None for a rejection."""
+    """Yields records of a type, and the expected bytes, or None if the record must be rejected."""
     values = LIBRARY[name][3]
     first, last = values[0], values[-1]
     has_tag = not is_choice(name)
@@ -289,7 +289,7 @@ def write(folder, names):
 
 
 def answers(names, asked):
-    """Returns what the program says of the records."""
+    """Returns the answers of the program about the records."""
     with tempfile.TemporaryDirectory() as place:
         program = write(pathlib.Path(place), names)
         lines = "".join(f"{name} {given.hex()}\n" for name, given, _ in asked)

@@ -1,12 +1,12 @@
 #!/usr/bin/env python3
-"""Tests tools/asn1: what it writes, and what it refuses.
+"""Tests tools/asn1: the sources that it writes, and its errors and notes.
 
     tests/asn1/test_asn1.py [--write]
 
-refused.txt has what is refused, with the messages. written.txt has the sources that are written
-from loans.asn1, forms.asn1 and automatic.asn1, which use each construct; --write writes it. The
-modules of RFCs in modules/ are written without errors. Where `rt` is found, `rt fmt` leaves what is
-written as it is.
+refused.txt contains parts of modules, with the errors and notes that are expected. written.txt
+contains the sources that are expected from loans.asn1, forms.asn1 and automatic.asn1, which use
+each construct; --write writes it. For the modules of RFCs in modules/, no error may occur. If `rt`
+is found, `rt fmt` may not change the sources.
 """
 
 import contextlib
@@ -58,7 +58,7 @@ def run(module, crate, *words):
 
 
 def written(folder):
-    """The files of a folder, each after its name."""
+    """Returns the files of a folder, each after its name."""
     paths = sorted(path for path in folder.rglob("*") if path.is_file())
     return "".join(f"==> {path.relative_to(folder)}\n{path.read_text()}" for path in paths)
 
@@ -71,7 +71,7 @@ def write_forms(folder):
 
 
 def cases():
-    """The cases of refused.txt: the line, the text, the options and the lines that are expected."""
+    """Yields each case of refused.txt: its line, text, options, and the expected lines."""
     number, text, words, lines = 0, [], [], []
     for at, line in enumerate([*(HERE / "refused.txt").read_text().splitlines(), ""], 1):
         if line.startswith("=> ["):
@@ -114,7 +114,7 @@ class Test(unittest.TestCase):
         self.assertEqual(written(self.folder), WRITTEN.read_text())
 
     def test_modules(self):
-        """The modules of RFCs are written, and those of the repository's crates are up to date."""
+        """Modules of RFCs cause no error, and the crates of this repository are up to date."""
         for crate, (module, *words) in CRATES.items():
             with self.subTest(module=module):
                 status, _, told = run(MODULES / f"{module}.asn1", self.folder / crate, *words)
@@ -126,7 +126,7 @@ class Test(unittest.TestCase):
                     self.assertEqual(asked[:2], (0, []))
 
     def test_layout(self):
-        """`rt fmt` changes nothing."""
+        """`rt fmt` doesn't change the sources."""
         if not shutil.which("rt"):
             self.skipTest("rt isn't found")
         write_forms(self.folder / "crates")
@@ -141,7 +141,7 @@ class Test(unittest.TestCase):
         self.assertEqual(written(self.folder / "crates"), before)
 
     def test_again(self):
-        """--check finds what was changed, and a second run removes what the first had more."""
+        """--check lists changed files, and a new run removes files that are no longer written."""
         module, crate = self.folder / "m.asn1", self.folder / "m"
         types = "A ::= ENUMERATED { a } B ::= SEQUENCE { a A }"
         module.write_text(f"M DEFINITIONS ::= BEGIN {types} END")
@@ -156,7 +156,7 @@ class Test(unittest.TestCase):
         self.assertEqual(sorted(it.name for it in (crate / "src").iterdir()), ["a.rt", "lib.rt"])
 
     def test_crates_line(self):
-        """The tool prints the line of crates.txt."""
+        """The tool prints the line for crates.txt."""
         _, lines, _ = run(HERE / "forms.asn1", self.folder / "forms")
         self.assertEqual(lines[-1], "crates.txt: forms: der_types_more der_types der_core bitflags")
         words = ["--with", "forms"]

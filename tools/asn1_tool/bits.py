@@ -9,16 +9,16 @@ def bits_source(crate, name):
     rust, known = names.camel(name), {}
     for item in definition.type.items:
         if known.setdefault(item.number, item.name) != item.name:
-            raise Refused(item.line, f"two bits of {name} have one number")
+            raise Refused(item.line, f"two bits of {name} have the same number")
     count = max(known) + 1
     gaps = [number for number in range(count) if number not in known]
     if gaps:
         crate.report.note(definition.line, f"{name}: a bit without a name is called Bit{gaps[0]}"
                                            f"{' and so on' if len(gaps) > 1 else ''}")
-    crate.report.note(definition.line, f"{name}: a bit after bit {count - 1} is rejected")
+    crate.report.note(definition.line, f"{name}: bits after bit {count - 1} are rejected")
     variants = [names.variant(known[at]) if at in known else f"Bit{at}" for at in range(count)]
     if len(set(variants)) < count:
-        raise Refused(definition.line, f"two bits of {name} would have one name")
+        raise Refused(definition.line, f"two bits of {name} would have the same name in Rust")
     size = next(size for size in (8, 16, 32, 64) if count <= size)
     rows = [f'(codes "{it}", {2**at})' for at, it in enumerate(variants)]
     return BITS.format(

@@ -10,7 +10,7 @@ from .syntax import Refused
 
 @dataclasses.dataclass(frozen=True)
 class Case:
-    """An alternative of a choice, with what stands for it."""
+    """An alternative of a choice, and its Rust form."""
 
     variant: str
     form: object
@@ -41,14 +41,14 @@ class Case:
         return f"Explicit {{ value: {lent} }}" if self.form.mode else lent
 
     def of(self, inner):
-        """The case as a pattern or a value."""
+        """Returns the case as a pattern or a value."""
         return f"case!({self.at} of {self.count}: {inner})"
 
     def pattern(self, rust, inner="(value)"):
         return f"{rust}::{self.variant}{'' if self.is_unit else inner}"
 
     def term(self, side):
-        """The line of the ghost term of what is read or written."""
+        """Returns the line of the ghost term for a decoded (`plain`) or encoded one (`written`)."""
         text = self.form.rust.text
         if self.form.mode == "implicit":
             found = f"⟦<{text} as ShapedValue>⟧.value_{side}"
@@ -94,7 +94,7 @@ class Choice:
                     )
         if len(set(variants)) < len(variants):
             line = self.definition.line
-            raise Refused(line, f"two alternatives of {self.name} would have one name")
+            raise Refused(line, f"two alternatives of {self.name} would have the same name in Rust")
 
     def uses(self):
         one_of = f"OneOf{len(self.cases)}"
@@ -139,15 +139,16 @@ class Choice:
             reading="\n".join(map(self.read, self.cases)),
         )
 
-    def answer(self):
-        """The file of the proof that the alternatives are compared, and its text."""
-        path = f"{names.module(self.name)}/{self.rust}DerOrd/der_cmp"
-        return f"proofs/{path}/Answers.antt", ANSWER.format(
-            crate=self.crate.name, path=path.replace("/", ".")
-        )
+    def answers(self):
+        """Yields the path and the text of the proofs of `der_cmp` and `first_tag`."""
+        for function, text in (("DerOrd/der_cmp", COMPARED), ("FirstTag/first_tag", TAGGED)):
+            path = f"{names.module(self.name)}/{self.rust}{function}"
+            yield f"proofs/{path}/Answers.antt", text.format(
+                crate=self.crate.name, path=path.replace("/", ".")
+            )
 
     def arm(self, pattern, value, end=","):
-        """An arm of a match, with braces where it is long."""
+        """Returns an arm of a match, with braces if the line would be too long."""
         line = f"            {pattern} => {value}{end}"
         if len(line) <= layout.LINE:
             return line
@@ -249,7 +250,7 @@ impl FirstTag for {rust} {{
     }}
 }}
 """
-ANSWER = """\
+COMPARED = """\
 -- What is lent are the alternatives of the two values.
 use Rattle.{crate}.proofs.{path}.Goals as goal
 
@@ -261,4 +262,12 @@ returns-clause-exact c = c.cases_cmp.ensures.exact _ _ c.cases.ensures c.cases-2
 
 pub returns-clause-refused : goal.returns-clause-refused
 returns-clause-refused c = c.cases_cmp.ensures.refused _ _ c.cases.ensures c.cases-2.ensures
+"""
+
+TAGGED = """\
+-- What is lent is the alternative of the value.
+use Rattle.{crate}.proofs.{path}.Goals as goal
+
+pub returns : goal.returns
+returns c = c.cases_tag.ensures _ c.cases.ensures
 """

@@ -3,19 +3,21 @@
     tools/asn1 MODULE.asn1 CRATE [--with FOLDER[=MODULE]].. [--read NAME=TYPE].. [--only NAME]..
         [--loose] [--equal-members] [--check]
 
-CRATE is the folder of the crate. Its src/, specs/ and proofs/ are written, and asn1_types.txt, from
-which another module imports types (--with). docs/ASN1.md says what each ASN.1 type becomes.
+CRATE is the folder of the crate. The tool writes its src/, specs/ and proofs/, and asn1_types.txt,
+from which other modules can import its types (--with). docs/ASN1.md says what each ASN.1 type
+becomes.
 
-  --with FOLDER[=MODULE]  types of the crate in FOLDER can be imported, as those of MODULE where it
-                          is given
-  --read NAME=TYPE        TYPE stands for NAME: Any, Int, OctetString, SequenceOwned, or the name of
-                          another type
-  --only NAME             the type NAME is written, and what it names; else all types are
-  --loose                 sizes and ranges that can't be checked are no errors
-  --equal-members         members of a SET OF may be equal
-  --check                 nothing is written; the status is 1 where a file differs
+  --with FOLDER[=MODULE]  allow imports of types from the crate in FOLDER; with =MODULE, the module
+                          that is imported from is called MODULE
+  --read NAME=TYPE        use TYPE in place of the type NAME: Any, Int, OctetString, SequenceOwned,
+                          or the name of another type
+  --only NAME             write only the type NAME and the types that it names
+  --loose                 report sizes and ranges that can't be checked as notes, not as errors
+  --equal-members         allow equal members in a SET OF
+  --check                 write nothing, list the files that would differ, and return the status 1
+                          if there is one
 
-Errors and notes have the line of the module. Nothing is written where there is an error.
+Each error and note has the number of a line of the module. After an error, nothing is written.
 """
 
 import argparse
@@ -47,7 +49,7 @@ def words_of(arguments):
 
 
 def sources(words, report):
-    """The files of the crate, path by path, and its libraries; errors go to the report."""
+    """Returns the files of the crate, by path, and its libraries. Errors go to the report."""
     try:
         table = library.library()
         for other in words.others:
@@ -67,7 +69,7 @@ def sources(words, report):
 
 
 def old_files(folder):
-    """The files that an earlier run wrote."""
+    """Returns the files that an earlier run wrote."""
     if not (folder / TABLE).exists():
         return set()
     lines = (folder / TABLE).read_text().splitlines()

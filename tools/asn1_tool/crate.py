@@ -1,4 +1,4 @@
-"""The files of a crate that has the types of a module."""
+"""Writes the files of a crate that contains the types of a module."""
 
 import dataclasses
 import re
@@ -17,7 +17,7 @@ ROOTS = {
 
 
 class Crate:
-    """Writes the types of a module, those of `only` and what they name, or all."""
+    """Writes all types of a module, or those in `only` and the types that they name."""
 
     def __init__(self, types, name, only=()):
         self.types, self.name, self.report = types, name, types.report
@@ -25,7 +25,7 @@ class Crate:
         self.files, self.exports = {}, {}
 
     def write(self):
-        """Fills `files`, path by path, and reports what can't be written."""
+        """Puts each file into `files`, and reports what can't be written."""
         kept = self.kept()
         records = [name for name in kept if self.types.kind(name) in ("record", "choice")]
         others = [name for name in kept if self.types.kind(name) in ("numbers", "bits")]
@@ -72,20 +72,20 @@ class Crate:
         self.add(names.module(name), text, [rust, f"{rust}Bits"] if kind == "bits" else [rust])
 
     def coded(self, of):
-        """The source of a record or a choice, whose proof becomes a file too."""
-        text, (path, proof) = of.source(), of.answer()
-        self.files[path] = proof
+        """Returns the source of a record or a choice, and adds the files of its proofs."""
+        text = of.source()
+        self.files.update(of.answers())
         return text
 
     def imports(self, name, uses):
-        """The imports of the file of a type, whose names have to differ."""
+        """Returns the imports of a type's file. No two imported names may be the same."""
         own = f"crate::{names.module(name)}::{names.camel(name)}"
         by_name = {names.camel(name): own}
         for path in sorted(uses):
             last = path.rpartition("::")[2]
             if by_name.setdefault(last, path) != path:
                 line = self.types.definitions[name].line
-                raise Refused(line, f"{name} would import {path} and {by_name[last]}")
+                raise Refused(line, f"{name} would import both {path} and {by_name[last]}")
         return layout.imports(path for path in uses if path != own)
 
     def add(self, module, text, exports):
@@ -95,7 +95,7 @@ class Crate:
     # Defaults.
 
     def default(self, field, form):
-        """What codes a field with a default, and the form that it has then."""
+        """Returns what codes a field with a default, and its form."""
         rust, value = form.rust, field.default
         item = self.numbered(field.type)
         if rust.default == value:
@@ -112,14 +112,14 @@ class Crate:
             if number is None or of.word == "BIT STRING" or number > 127:
                 raise self.no_default(field)
             if self.defaults.setdefault(name, (value, number)) != (value, number):
-                raise Refused(field.line, f"{name} has another default elsewhere: a type has one")
+                raise Refused(field.line, f"{name} can't have two defaults")
             return Default(rust), form
         if rust.bits is not None:
             number = self.number(value, field)
             if rust.bits == 0:
                 bits = next((it for it in (32, 64, 128) if 0 <= number < 2**it), -128)
                 rust = library.machine(bits)
-                self.report.note(field.line, f"{field.name}: an INTEGER with a default is read as "
+                self.report.note(field.line, f"{field.name}: an INTEGER with a default becomes "
                                              f"{rust.text}")
                 form = Form(rust, form.mode, form.number, form.first)
             if number == 0 and rust.text == "u32":
@@ -140,7 +140,7 @@ class Crate:
         return self.types.module.numbers[value]
 
     def numbered(self, of):
-        """The name of the type with named numbers behind a field's type, and that type."""
+        """Returns the name and the type, if a field's type is one with named numbers, else None."""
         of = self.types.peeled(of)[1]
         while isinstance(of, Named) and of.name in self.types.definitions:
             found = self.types.definitions[of.name].type
@@ -150,7 +150,7 @@ class Crate:
         return None
 
     def wrapper(self, value, rust, octets):
-        """A type around `rust` that has the default `value`, coded as `octets`."""
+        """Returns a wrapper of `rust` with the default `value`, whose content is `octets`."""
         base = library.machine(rust.bits).text
         name = base.capitalize() + "Default" + names.variant(value.replace("-", "minus-"))
         self.wrappers[name] = (base, value.lower(), octets)
@@ -204,7 +204,7 @@ class Crate:
         return isinstance(of, Plain) and of.word == "OBJECT IDENTIFIER"
 
     def resolved(self, name, seen):
-        """The arcs of an identifier."""
+        """Returns the arcs of an identifier."""
         _, arcs, line = self.types.module.values[name]
         found = []
         for at, arc in enumerate(arcs):
@@ -222,7 +222,7 @@ class Crate:
             else:
                 raise Refused(line, f"{name} isn't written: the identifier `{arc}` isn't known")
         if len(found) < 2 or found[0] > 2 or found[1] > 39:
-            raise Refused(line, f"{name} isn't written: the library has no such identifier")
+            raise Refused(line, f"{name} isn't written: the library doesn't support it")
         return found
 
     # The crate.
@@ -242,7 +242,7 @@ class Crate:
             self.files["specs/Opened.antt"] = numbers.OPENED
 
     def table(self):
-        """What another module may import from this one."""
+        """Returns the text of asn1_types.txt: what another module can import from this one."""
         rows = [f"[{self.types.module.name}]"]
         for name in sorted(self.kept()):
             if self.types.kind(name) == "tagged":
@@ -258,14 +258,14 @@ class Crate:
         return "\n".join(rows) + "\n"
 
     def libraries(self):
-        """The libraries that the crate's line in crates.txt names."""
+        """Returns the libraries that the crate's line in crates.txt must name."""
         text = "\n".join(self.files.values())
         roots = set(re.findall(r"^(?:ghost )?use (?:Rattle\.)?(\w+)(?:::|\.)", text, re.M))
         return sorted(roots - {"std", "crate", self.name}, key=rank)
 
 
 def rank(library):
-    """The place of a library in a line of crates.txt: from the top of the layers down."""
+    """Returns the sort key of a library in a line of crates.txt: upper layers come first."""
     order = ["x509_cert_reading", "der_types_more", "der_types", "der_core", "bitflags"]
     return (order.index(library) if library in order else -1, library)
 

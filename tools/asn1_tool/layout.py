@@ -1,11 +1,11 @@
-"""Rust source in the layout of `rt fmt`."""
+"""Lays out Rust source as `rt fmt` does."""
 
 from __future__ import annotations
 
 import dataclasses
 import re
 
-# The most columns of a line, of the members of a call or a tuple, and of the fields of a literal.
+# The maximum width of a line, of the members of a call or a tuple, and of the fields of a literal.
 LINE, MEMBERS, LITERAL = 100, 60, 18
 
 
@@ -24,7 +24,7 @@ class Call:
 
 @dataclasses.dataclass(frozen=True)
 class Literal:
-    """A struct literal. A field whose value is its own name stands as the name."""
+    """A struct literal. A field whose value is its own name is written as the name alone."""
 
     head: str
     fields: tuple[tuple[str, Node], ...]
@@ -53,7 +53,7 @@ def field_text(name, value):
 
 
 def flat(node):
-    """The source on one line."""
+    """Returns the source on one line."""
     match node:
         case Tuple(members):
             return f"({members_text(members)})"
@@ -73,7 +73,7 @@ def members_text(members):
 
 
 def is_short(node):
-    """Whether a node may stand on one line that is long enough for it."""
+    """Returns whether `rt fmt` leaves a node on one line, if it fits."""
     match node:
         case Tuple(members) | Call(_, members):
             return len(members_text(members)) <= MEMBERS and all(map(is_short, members))
@@ -86,7 +86,10 @@ def is_short(node):
 
 
 def laid(node, indent, before=0, after=0):
-    """The source of a node that begins `before` columns behind `indent`, with `after` to follow."""
+    """Returns the source of a node that begins at column `indent + before`.
+
+    `after` columns are needed behind it.
+    """
     text = flat(node)
     if is_short(node) and indent + before + len(text) + after <= LINE:
         return text
@@ -111,7 +114,7 @@ def laid(node, indent, before=0, after=0):
 
 
 def nested(members, last="()"):
-    """The nested pairs of a row."""
+    """Returns the nested pairs of a row."""
     found = last
     for member in reversed(members):
         found = Tuple((member, found))
@@ -119,7 +122,7 @@ def nested(members, last="()"):
 
 
 def alias(name, node):
-    """A type of another name."""
+    """Returns the declaration of a type alias."""
     start = f"type {name} = "
     return f"{start}{laid(node, 0, len(start), 1)};"
 
@@ -128,7 +131,7 @@ def alias(name, node):
 
 
 def order(name):
-    """The order of names: a number by its value, and a list after names."""
+    """Returns the sort key of a name: numbers by value, and a list in braces after names."""
     return [
         (1, int(part), "") if part.isdigit() else (0, 0, part.replace("{", "\x7f"))
         for part in re.split(r"(\d+)", name) if part
@@ -136,7 +139,7 @@ def order(name):
 
 
 def imports(paths):
-    """The `use` lines of some paths, those of one module together."""
+    """Returns the `use` lines of some paths, with one line for each module."""
     by_module = {}
     for path in set(paths):
         module, _, name = path.rpartition("::")
@@ -160,7 +163,7 @@ def use_list(module, found):
 
 
 def filled(items, indent, end=",", width=LINE):
-    """Items with commas, as many on a line as there is room for."""
+    """Returns the items with commas, as many on each line as fit."""
     lines, pad = [""], " " * indent
     for number, item in enumerate(items):
         comma = "," if number + 1 < len(items) else end
@@ -174,7 +177,7 @@ def filled(items, indent, end=",", width=LINE):
 
 
 def pairs(parts, indent):
-    """The nested pairs of some terms, each on its line."""
+    """Returns the nested pairs of some terms, one term on each line."""
     pad, inner = " " * indent, " " * (indent + 2)
     first, *rest = parts
     row = f"({first}, tt)"
@@ -188,7 +191,7 @@ def pairs(parts, indent):
 
 
 def list_term(items, indent, before, after):
-    """A list of terms, cut into lines."""
+    """Returns a list of terms, broken into lines."""
     words, lines = [*items, "[]"], [""]
     room = LINE - before - after
     for number, word in enumerate(words):
@@ -205,7 +208,7 @@ def list_term(items, indent, before, after):
 
 
 def comment(definition, notes=()):
-    """The doc comment of a type: notes, and the ASN.1 that declares it."""
+    """Returns the doc comment of a type: notes, and the ASN.1 that declares it."""
     first, *rest = definition.text.splitlines()
     rest = [line.rstrip() for line in rest if line.strip()]
     inner = [line for line in rest if line.strip() != "}"]

@@ -1,4 +1,4 @@
-"""The types of the library, and the tables by which modules import types."""
+"""The types of the library, and the tables from which modules import types."""
 
 import dataclasses
 import functools
@@ -13,26 +13,26 @@ HERE = pathlib.Path(__file__).resolve().parent
 
 @dataclasses.dataclass(frozen=True)
 class RustType:
-    """A Rust type that stands for an ASN.1 type, without a tag around it."""
+    """The Rust type for an ASN.1 type, without a tag around it."""
 
     text: str
-    # The paths that a file imports to name it.
+    # The paths that a file must import to use it.
     uses: frozenset[str] = frozenset()
-    # The tags with which an encoding may begin, or None for any: "SEQUENCE", or the number of [N].
+    # The tags with which an encoding can begin: "SEQUENCE", or the number N of [N]; None for any.
     first: frozenset | None = frozenset()
-    # A tag around it is explicit: a CHOICE, or any type (X.680 31.2.7).
+    # A tag around it must be explicit, as for a CHOICE or any type (X.680 31.2.7).
     is_choice: bool = False
     is_copy: bool = False
-    # A value is written as it is read: no profile re-encodes it.
+    # A value is encoded as it was decoded: no profile encodes it in another form.
     is_same: bool = True
-    # Of an INTEGER, the bits of a machine integer, negative where it has a sign, or 0 for any size.
+    # For an INTEGER: the bits of the machine integer, negative if it is signed, or 0 for any size.
     bits: int | None = None
-    # The value that it has as its default, as a module names it.
+    # Its default value, as the module names it.
     default: str | None = None
 
     @property
     def crate(self):
-        """The crate that has the type."""
+        """Returns the crate that contains the type."""
         return min(self.uses).partition("::")[0]
 
 
@@ -68,9 +68,9 @@ PLAIN = {
         "GeneralizedTime", "der_types::GeneralizedTime", "GeneralizedTime", is_copy=True
     ),
 }
-# A BOOLEAN that is TRUE where it is absent.
+# A BOOLEAN whose default is TRUE.
 OR_TRUE = plain("OrTrue", "der_types_more::OrTrue", "BOOLEAN", is_copy=True)
-# What a user may name in place of a type: --read NAME=Any.
+# What can be given in place of a type: --read NAME=Any.
 READ = {
     "Any": ANY, "Int": INT, "OctetString": PLAIN["OCTET STRING"],
     "SequenceOwned": plain("SequenceOwned", "der_types_more::SequenceOwned", "SEQUENCE"),
@@ -78,29 +78,29 @@ READ = {
 
 
 def machine(bits):
-    """A machine integer of so many bits, negative where it has a sign."""
+    """Returns the machine integer of this many bits; a negative number means a signed one."""
     text = f"u{bits}" if bits > 0 else f"i{-bits}"
     return plain(text, None, "INTEGER", is_copy=True, bits=bits)
 
 
 def has(bits, number):
-    """Whether a machine integer of so many bits has a number."""
+    """Returns whether a number is in the range of this machine integer."""
     return 0 <= number < 2**bits if bits > 0 else -(2 ** (-bits - 1)) <= number < 2 ** (-bits - 1)
 
 
 @dataclasses.dataclass
 class Table:
-    """The types and object identifiers that modules import, by module."""
+    """The types and object identifiers that can be imported, by module."""
 
     types: dict[tuple[str, str], RustType] = dataclasses.field(default_factory=dict)
     identifiers: dict[tuple[str, str], list[int]] = dataclasses.field(default_factory=dict)
 
     def read(self, path, module=None):
-        """Adds the rows of a file, all as of `module` where it is given.
+        """Adds the rows of a file. If `module` is given, all rows belong to it.
 
-        A row is the name of a type, its Rust type, the path of what it imports, the tags with which
-        it begins, and its marks; or the name of an object identifier, `OID` and its arcs. A line
-        [MODULE ..] says of which modules the rows after it are.
+        A row contains the name of a type, its Rust type, the path to import from, the tags with
+        which it can begin, and its marks; or the name of an object identifier, `OID`, and its arcs.
+        A line [MODULE ..] names the modules to which the next rows belong.
         """
         modules = []
         for number, line in enumerate(pathlib.Path(path).read_text().splitlines(), 1):
@@ -121,7 +121,7 @@ class Table:
 
 
 def row(text, path, first, *marks):
-    """A type of a table. `~` stands for a space."""
+    """Returns the type of a row of a table. In a row, `~` means a space."""
     tags = None if first == "ANY" else frozenset(
         int(tag[1:-1]) if re.fullmatch(r"\[\d+\]", tag) else tag.replace("~", " ")
         for tag in first.split("+")
@@ -135,7 +135,7 @@ def row(text, path, first, *marks):
 
 
 def cells(name, of):
-    """The row of a type."""
+    """Returns the row of a type."""
     tags = "ANY" if of.first is None else "+".join(sorted(map(tag_text, of.first)))
     marks = [
         mark for mark, holds in (
@@ -148,17 +148,17 @@ def cells(name, of):
 
 
 def tag_text(tag):
-    """A tag as messages and tables write it."""
+    """Returns a tag as it is written in messages and tables."""
     return f"[{tag}]" if isinstance(tag, int) else tag
 
 
 def library():
-    """The table of the library."""
+    """Returns the table of the library."""
     return Table().read(HERE / "library.txt")
 
 
 @functools.cache
 def parameterized():
-    """The modules whose types with parameters can be imported."""
+    """Returns the modules whose types with parameters can be imported."""
     name = "PKIX1Explicit-2009"
     return {name: parsed((HERE / f"{name}.asn1").read_text())}

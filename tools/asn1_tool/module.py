@@ -10,18 +10,18 @@ from .syntax import (
     Refused, Structure, Tag, Tagged, Type,
 )
 
-# A choice of more alternatives than this has the others in a choice of their own: the library has
-# `OneOf2` to `OneOf9`.
+# The library has `OneOf2` to `OneOf9`. If a choice has more alternatives, its last ones become a
+# choice of their own.
 ALTERNATIVES = 9
-# A SET OF whose members differ.
+# A SET OF without equal members.
 SET_TYPE = "der_core::StrictSetOf"
-# The most members of an array or a list of bounded length, which are kept in place.
+# The maximum number of members that an array, or a list of bounded length, keeps in place.
 IN_PLACE = 32
 
 
 @dataclasses.dataclass(frozen=True)
 class Form:
-    """What stands for a field, an alternative or a member: a type, and the tag around it."""
+    """The Rust form of a field, an alternative or a member: a type, and the tag around it."""
 
     rust: RustType
     mode: str | None
@@ -39,7 +39,7 @@ class Form:
 
 
 def overlap(one, other):
-    """The first tags that two types share: None for any."""
+    """Returns the tags with which both types can begin; None if one can begin with any tag."""
     if one is None or other is None:
         return None
     return one & other
@@ -50,7 +50,7 @@ def shared(tags):
 
 
 class Resolved:
-    """The types of a module, each with a name, and what they are in Rust."""
+    """The types of a module, each with a name, and their Rust types."""
 
     def __init__(self, module, report, table, read=None, loose=False, equal_members=False):
         self.module, self.report, self.table, self.loose = module, report, table, loose
@@ -65,7 +65,7 @@ class Resolved:
         self.cyclic = self.check_cycles()
 
     def take_known(self):
-        """Takes from the table what another crate has of this very module."""
+        """Uses the types of this module that another crate in the table already has."""
         of, crates = self.module.name, collections.Counter()
         for name, definition in list(self.module.types.items()):
             if (of, name) in self.table.types:
@@ -73,14 +73,14 @@ class Resolved:
                 self.module.imports[name] = of, definition.line
                 crates[self.table.types[of, name].crate] += 1
         for crate, count in crates.items():
-            self.report.note(1, f"{count} types aren't written: they are those of {crate}")
+            self.report.note(1, f"{count} types aren't written: {crate} has them")
         for name, value in list(self.module.values.items()):
             if (of, name) in self.table.identifiers:
                 del self.module.values[name]
                 self.module.imports[name] = of, value[2]
 
-    # The tree: each structure and each type with named numbers gets a name, and parameters what
-    # stands for them.
+    # The tree: each structure and each type with named numbers gets a name, and parameters are
+    # replaced by their arguments.
 
     def define(self, name, definition, values=None):
         kept = dataclasses.replace(definition, name=name, parameters=[])
@@ -93,7 +93,7 @@ class Resolved:
         return kept
 
     def placed(self, of, values, owner, is_top=False):
-        """A copy of a type, in which all that needs a name has one."""
+        """Returns a copy of a type, in which everything that needs a name has one."""
         limits = [bounded(it, values) for it in of.constraints]
         match of:
             case Named():
@@ -118,7 +118,7 @@ class Resolved:
         return self.new_name(found, owner)
 
     def new_name(self, of, name):
-        """A reference to a type that has got a name."""
+        """Names a type, and returns a reference to it."""
         while name in self.definitions or name in self.module.types:
             name += "-Part"
         word = of.word
@@ -137,7 +137,7 @@ class Resolved:
             return Named(of.line, of.name, constraints=limits)
         if len(of.arguments) != len(definition.parameters):
             count, given = len(definition.parameters), len(of.arguments)
-            raise Refused(of.line, f"{of.name} has {count} parameters, and {given} here")
+            raise Refused(of.line, f"{of.name} has {count} parameters, but {given} are given")
         own = {}
         for parameter, argument in zip(definition.parameters, of.arguments):
             if isinstance(argument, Named) and argument.name in values:
@@ -161,7 +161,7 @@ class Resolved:
         return Named(of.line, self.instances[key], constraints=limits)
 
     def parameterized(self, name):
-        """A type with parameters that the module imports, as RFC 5912 declares it."""
+        """Returns an imported type with parameters, as RFC 5912 declares it."""
         module = self.module.imports.get(name, (None,))[0]
         found = library.parameterized().get(module)
         if found is None or name not in found.types:
@@ -171,7 +171,7 @@ class Resolved:
         return found.types[name]
 
     def argument(self, of, values, owner, parameter):
-        """What stands for a parameter: a type, or nothing for a class or a set of objects."""
+        """Returns the argument for a parameter: a type, or None for a class or a set of objects."""
         if isinstance(of, Named) and not of.arguments:
             is_type = of.name in self.module.types or of.name in self.read
             is_type = is_type or self.imported(of.name) is not None
@@ -190,7 +190,7 @@ class Resolved:
         raise Refused(of.line, f"the type of {of.cls}.{of.field} isn't known: declare the class")
 
     def fields(self, of, values, owner):
-        """The fields of a structure, those of COMPONENTS OF among them, with automatic tags."""
+        """Returns the fields of a structure, with those of COMPONENTS OF and automatic tags."""
         tags = [isinstance(it, Field) and isinstance(it.type, Tagged) for it in of.fields]
         is_automatic = self.module.tags == "AUTOMATIC" and not any(tags)
         fields = []
@@ -210,7 +210,7 @@ class Resolved:
         return fields
 
     def components(self, of):
-        """The fields of a SEQUENCE of the module, without additions and automatic tags."""
+        """Returns the fields of a SEQUENCE of the module, without additions and automatic tags."""
         name = of.type.name if isinstance(of.type, Named) else None
         definition = self.module.types.get(name)
         is_record = definition and not definition.parameters
@@ -223,7 +223,7 @@ class Resolved:
         return [dataclasses.replace(field) for field in self.components_of[name]]
 
     def cut(self, choice, owner):
-        """Of a long choice the last alternatives become a choice of their own."""
+        """Makes the last alternatives of a long choice a choice of their own."""
         first, rest = choice.fields[: ALTERNATIVES - 1], choice.fields[ALTERNATIVES - 1 :]
         more = Structure(rest[0].line, "CHOICE", rest, False)
         if len(rest) > ALTERNATIVES:
@@ -231,7 +231,7 @@ class Resolved:
         reference = self.new_name(more, owner + "-More")
         choice.fields = [*first, Field("more", reference, rest[0].line)]
 
-    # What is declared.
+    # Declared types.
 
     def check_names(self):
         by_type = {}
@@ -243,7 +243,7 @@ class Resolved:
                 self.report.error(line, f"{' and '.join(found)} would both become {rust}")
 
     def references(self, of):
-        """The types of the module that a type names."""
+        """Returns the types of the module that a type names."""
         found = set()
         match of:
             case Named():
@@ -259,7 +259,7 @@ class Resolved:
         return found
 
     def check_cycles(self):
-        """The types that contain themselves, each cycle reported once."""
+        """Reports each cycle of types that contain themselves, and returns these types."""
         graph = {name: self.references(it.type) for name, it in self.definitions.items()}
         state, cyclic = {}, set()
 
@@ -284,7 +284,7 @@ class Resolved:
         return cyclic
 
     def closure(self, names_of):
-        """Types, and all that they name."""
+        """Returns the types, and all types that they name, directly or indirectly."""
         todo, found = list(names_of), set()
         while todo:
             name = todo.pop()
@@ -294,7 +294,7 @@ class Resolved:
         return found
 
     def kind(self, name):
-        """In which way a type is written."""
+        """Returns how a type is written: as a "record", a "choice", an "alias", and so on."""
         of = self.definitions[name].type
         if isinstance(of, Structure):
             if of.word == "CHOICE":
@@ -305,12 +305,12 @@ class Resolved:
         return "tagged" if self.is_tagged(name) else "alias"
 
     def is_numbered(self, of):
-        """Whether named numbers become a type: numbers of eight bits, or bits up to 63."""
+        """Returns whether named numbers become a type: numbers below 256, or bits below 64."""
         least, most = (0, 64) if of.word == "BIT STRING" else (0, 256)
         return bool(of.items) and all(least <= it.number < most for it in of.items)
 
     def items(self, of):
-        """The named numbers that a constraint, if there is one, lets stand."""
+        """Returns the named numbers that the constraints allow."""
         found = of.items
         for limit in of.constraints:
             if limit.kind != "values" or limit.extensible:
@@ -324,7 +324,7 @@ class Resolved:
         return found
 
     def is_tagged(self, name, seen=()):
-        """Whether a name is that of a tag around a type."""
+        """Returns whether a name means a tagged type."""
         of = self.definitions[name].type
         if isinstance(of, Named) and of.name in self.definitions and of.name not in seen:
             return self.is_tagged(of.name, (*seen, name))
@@ -333,7 +333,7 @@ class Resolved:
     # Types in Rust.
 
     def peeled(self, of):
-        """The tags around a type, those of the names that it has among them, and what is inside."""
+        """Returns all tags around a type, also those behind names, and the type inside."""
         tags, seen = [], set()
         while True:
             outer = of
@@ -355,14 +355,14 @@ class Resolved:
         return tag.mode or ("EXPLICIT" if self.module.tags == "EXPLICIT" else "IMPLICIT")
 
     def form(self, of):
-        """What stands for a field, an alternative or a member."""
+        """Returns the Rust form of a field, an alternative or a member."""
         tags, inner = self.peeled(of)
         rust = self.rust(inner)
         if not tags:
             return Form(rust, None, None, rust.first)
         tag = tags.pop()
         while tags:
-            # An implicit tag stands in place of the one inside.
+            # An implicit tag replaces the tag inside.
             outer = tags.pop()
             if self.mode(outer) == "EXPLICIT":
                 raise Refused(outer.line, "an explicit tag around a tag can't be written")
@@ -395,10 +395,10 @@ class Resolved:
             case ListOf():
                 return self.list_of(of)
             case Numbered(word="BIT STRING"):
-                self.report.note(of.line, "the bits past the 64th have no names: any bits are read")
+                self.report.note(of.line, "only 64 bits can have names: any bits are accepted")
                 found = library.PLAIN["BIT STRING"]
             case Numbered(word="INTEGER"):
-                self.report.note(of.line, "a number isn't from 0 to 255: any INTEGER is read")
+                self.report.note(of.line, "a number isn't from 0 to 255: any INTEGER is accepted")
                 found = library.INT
             case Numbered():
                 raise Refused(of.line, "an ENUMERATED with a number that isn't from 0 to 255 "
@@ -428,7 +428,7 @@ class Resolved:
             raise Refused(line, f"--read {name}={read}: {read} isn't known")
         if found is None and name in self.module.imports:
             module = self.module.imports[name][0]
-            raise Refused(line, f"{name} of {module} isn't in a table: give --with, or "
+            raise Refused(line, f"{name} of {module} isn't known: give --with, or "
                                 f"--read {name}=TYPE")
         if found is None:
             raise Refused(line, f"the type {name} isn't declared")
@@ -443,7 +443,7 @@ class Resolved:
         return found
 
     def declared(self, name, line):
-        """A type of the module."""
+        """Returns the Rust type of a type of the module."""
         if name not in self.found:
             if name in self.busy:
                 raise Refused(line, f"{name} contains itself")
@@ -475,7 +475,7 @@ class Resolved:
             return RustType(text, use, frozenset([word]), is_copy=True)
         if of.word == "SET":
             raise Refused(of.line, "a SET of fields can't be written: "
-                                   "the library has no such record")
+                                   "the library doesn't support it")
         forms = [self.form(field.type) for field in of.fields]
         first = frozenset(["SEQUENCE"])
         if kind == "choice":
@@ -489,18 +489,18 @@ class Resolved:
     # Constraints.
 
     def unchecked(self, limit, read):
-        """A constraint that what is read doesn't have to meet."""
+        """Reports a constraint that the Rust type doesn't check."""
         if limit.kind == "contents" or limit.extensible:
             return
         if self.loose:
-            self.report.note(limit.line, f"{limit.text} isn't checked: any {read} is read")
+            self.report.note(limit.line, f"{limit.text} isn't checked: any {read} is accepted")
         else:
             self.report.error(
-                limit.line, f"{limit.text} can't be checked; with --loose any {read} is read"
+                limit.line, f"{limit.text} can't be checked; with --loose, any {read} is accepted"
             )
 
     def end(self, bound, line):
-        """The end of a range; None where it is open."""
+        """Returns the end of a range; None for MIN and MAX."""
         if bound in ("MIN", "MAX"):
             return None
         if isinstance(bound, int):
@@ -510,7 +510,7 @@ class Resolved:
         return self.module.numbers[bound]
 
     def hull(self, limit):
-        """The least and the greatest of some ranges, and whether all between them are meant."""
+        """Returns the least and the greatest number, and whether there is only one range."""
         ends = [tuple(self.end(it, limit.line) for it in one) for one in limit.ranges]
         low = None if any(one[0] is None for one in ends) else min(one[0] for one in ends)
         high = None if any(one[1] is None for one in ends) else max(one[1] for one in ends)
@@ -557,12 +557,12 @@ class Resolved:
 
 
 def limited(of, limits):
-    """A type with more constraints."""
+    """Returns a type with additional constraints."""
     return dataclasses.replace(of, constraints=[*of.constraints, *limits])
 
 
 def bounded(limit, values):
-    """A constraint, with what stands for parameters in it."""
+    """Returns a constraint in which parameters are replaced by their values."""
     ranges = tuple(
         tuple(values.get(end, end) if isinstance(end, str) else end for end in one)
         for one in limit.ranges
@@ -571,7 +571,7 @@ def bounded(limit, values):
 
 
 def number_type(low, high):
-    """The least type that has a range of numbers, and whether it has no others."""
+    """Returns the smallest type that has all numbers of a range, and whether it has no others."""
     if high is None:
         if low is None or low < 0:
             return library.INT, low is None

@@ -1,4 +1,4 @@
-"""Rust names of ASN.1 names."""
+"""Makes Rust names from ASN.1 names."""
 
 import re
 
@@ -8,7 +8,7 @@ KEYWORDS = set(
     await dyn abstract become box do final macro override priv typeof unsized virtual yield try
     ghost syntax prove union std core""".split()
 )
-# What the written files name otherwise: a type of such a name ends with `Type`.
+# The written files use these names for something else, so a type with such a name ends with `Type`.
 TAKEN = set(
     """Any AsEnumerated AsNumbered AsRecord BitString Box Cases CasesRef Choice Clone Copy Debug
     Decode DecodeFields DecodeRow DefaultContent DerOrd Described Drop Element Encode EncodeFields
@@ -18,12 +18,12 @@ TAKEN = set(
     Rest RestRef RestRow RestRowRef Result Row RowUser Rows Self SequenceOf Shaped ShapedValue Some
     StrictSetOf String Tag Uint UtcTime Vec WithDefault Writer""".split()
 )
-# Modules that the crate has besides those of its types.
+# Modules of the crate that contain no types of the ASN.1 module.
 MODULES = {"aliases", "identifiers", "defaults", "lib", "main"}
 
 
 def words(name):
-    """The words of a name: OCSPRequest has OCSP and Request, and SHA2Family SHA2 and Family."""
+    """Returns the words of a name, such as OCSP and Request, or SHA2 and Family."""
     found = []
     for part in re.split(r"[-_]", name):
         found += re.findall(
@@ -35,23 +35,23 @@ def words(name):
 
 
 def variant(name):
-    """The name of a variant: `keyHash` is `KeyHash`."""
+    """Returns the name of a variant: `KeyHash` for `keyHash`."""
     return "".join(word[0].upper() + word[1:].lower() for word in words(name))
 
 
 def camel(name):
-    """The name of a type."""
+    """Returns the name of a type."""
     found = variant(name)
     return found + "Type" if found in TAKEN else found
 
 
 def snake(name):
-    """The name of a field or a function."""
+    """Returns the name of a field or a function."""
     found = "_".join(word.lower() for word in words(name))
     return found + "_" if found in KEYWORDS else found
 
 
 def module(name):
-    """The module of a type."""
+    """Returns the name of the module that contains a type."""
     found = "_".join(word.lower() for word in words(name))
     return found + "_type" if found in KEYWORDS | MODULES else found

@@ -1,4 +1,4 @@
-"""The source of named numbers, and of numbers that have a default."""
+"""The source of named numbers, and of numbers with a default."""
 
 import dataclasses
 
@@ -7,7 +7,7 @@ from .layout import Call
 from .library import RustType
 from .syntax import Refused
 
-# What proofs about contents unfold, imported by specs/Opened.antt.
+# The definitions that proofs about contents unfold; specs/Opened.antt imports them.
 OPENED = """\
 -- Definitions of other crates that attributes of this one unfold.
 unfoldable pub use Rattle.der_core.specs.Integers.{integer_octets}
@@ -37,23 +37,23 @@ class Default:
 
 
 def content(number):
-    """The content octets of an INTEGER (X.690 8.3)."""
+    """Returns the content octets of an INTEGER (X.690 8.3)."""
     size = next(size for size in range(1, 18) if library.has(-8 * size, number))
     return list(number.to_bytes(size, "big", signed=True))
 
 
 def number_source(crate, name):
-    """The source of an ENUMERATED, or an INTEGER with names."""
+    """Returns the source of an ENUMERATED, or of an INTEGER with named numbers."""
     definition = crate.types.definitions[name]
     of, rust = definition.type, names.camel(name)
     items = crate.types.items(of)
     numbers, variants = [it.number for it in items], [names.variant(it.name) for it in items]
     if len(set(numbers)) < len(numbers):
-        raise Refused(definition.line, f"two values of {name} have one number")
+        raise Refused(definition.line, f"two values of {name} have the same number")
     if len(set(variants)) < len(variants):
-        raise Refused(definition.line, f"two values of {name} would have one name")
+        raise Refused(definition.line, f"two values of {name} would have the same name in Rust")
     if of.word == "INTEGER" or of.extensible:
-        crate.report.note(definition.line, f"{name}: a number without a name is rejected")
+        crate.report.note(definition.line, f"{name}: numbers without a name are rejected")
     way = "AsEnumerated" if of.word == "ENUMERATED" else "AsNumbered"
     expected = [0, *(number + 1 for number in numbers)]
     declared = [
@@ -135,7 +135,7 @@ impl DefaultNumber for {rust} {{
 
 
 def wrappers_source(found):
-    """The types around numbers whose default isn't that of the library."""
+    """Returns the source of the wrappers of numbers whose default isn't that of the library."""
     is_long = any(not is_small(octets) for _, _, octets in found.values())
     uses = {"der_core::DefaultContent"}
     uses |= {f"der_core::describing::{it}" for it in ("AsField", "Described", "Ordered", "Wraps")}
@@ -167,7 +167,7 @@ def wrappers_source(found):
 
 
 def is_small(octets):
-    """Whether a content is that of a number from 0 to 127."""
+    """Returns whether a content is that of a number from 0 to 127."""
     return len(octets) == 1 and octets[0] < 128
 
 

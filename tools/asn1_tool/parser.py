@@ -1,4 +1,4 @@
-"""Reads the text of an ASN.1 module (X.680, and of X.681 to X.683 what RFC 5912 uses)."""
+"""Parses the text of an ASN.1 module: X.680, and the parts of X.681 to X.683 that RFC 5912 uses."""
 
 import re
 import typing
@@ -20,10 +20,10 @@ TOKEN = re.compile(
     """,
     re.X | re.S,
 )
-# The head and the foot of a page of an RFC.
+# The header and the footer of a page of an RFC.
 PAGE = re.compile(r"^(?:\S.*\[Page \d+\]|RFC \d+ .* [A-Z][a-z]+ \d{4})[ \t]*$", re.M)
 PAIRS = {"{": "}", "(": ")", "[": "]", "[[": "]]"}
-# Types of one word, or of two.
+# Types whose names are one word or two.
 WORDS = {
     "BOOLEAN", "NULL", "REAL", "EXTERNAL", "RELATIVE-OID", "OID-IRI", "RELATIVE-OID-IRI", "TIME",
     "DATE", "TIME-OF-DAY", "DATE-TIME", "DURATION", "UTF8String", "PrintableString", "IA5String",
@@ -47,7 +47,7 @@ class Token(typing.NamedTuple):
 
 
 def tokens(text):
-    """The tokens of a text, and one of the kind "end" after them."""
+    """Returns the tokens of a text, followed by one of the kind "end"."""
     found, place, line = [], 0, 1
     while place < len(text):
         match = TOKEN.match(text, place)
@@ -62,7 +62,7 @@ def tokens(text):
 
 
 def parsed(text):
-    """The module that a text has."""
+    """Returns the module that a text contains."""
     return Parser(PAGE.sub("", text.replace("\r", "").replace("\f", "").expandtabs(8))).module()
 
 
@@ -121,9 +121,9 @@ class Parser:
         return self.step()
 
     def bracket(self):
-        """The tokens inside a pair of brackets."""
+        """Skips a pair of brackets, and returns the tokens inside."""
         opened, start = self.take("{", "(", "["), self.at
-        wanted = [PAIRS[opened.text]]  # each a bracket, `]]` two of them
+        wanted = [PAIRS[opened.text]]  # closing brackets; `]]` counts as two
         while wanted:
             if self.now.kind == "end":
                 raise Refused(opened.line, f"`{opened.text}` isn't closed")
@@ -136,11 +136,11 @@ class Parser:
         return self.tokens[start : self.at - 1]
 
     def said(self, start):
-        """The text from a token on, as one line."""
+        """Returns the text from a token up to here, as one line."""
         return " ".join(self.text[start.start : self.tokens[self.at - 1].end].split())
 
     def inside(self, inner):
-        """A parser of some tokens."""
+        """Returns a parser of some tokens."""
         part = Parser("")
         part.text, part.found = self.text, self.found
         last = inner[-1] if inner else self.now
@@ -170,7 +170,7 @@ class Parser:
         while not self.took("END"):
             self.assignment()
         if self.now.kind != "end":
-            raise Refused(self.now.line, "a second module begins here: give each a file of its own")
+            raise Refused(self.now.line, "a second module begins here: put each into its own file")
         return found
 
     def imports(self):
@@ -244,7 +244,7 @@ class Parser:
             self.found.others[name.text] = name.line
 
     def arcs(self, inner):
-        """The arcs of an object identifier, or None where the tokens are none."""
+        """Returns the arcs of an object identifier, or None if the tokens aren't one."""
         arcs, part = [], self.inside(inner)
         while part.now.kind != "end":
             token = part.step()
@@ -262,7 +262,7 @@ class Parser:
         return arcs
 
     def parameters(self):
-        """The names of parameters, without what governs them."""
+        """Returns the names of parameters, without their governors."""
         names = []
         for part in split(self.bracket()):
             if not part or part[-1].kind != "name":
@@ -271,7 +271,7 @@ class Parser:
         return names
 
     def class_fields(self):
-        """Of a class, the types of its fields with a fixed type."""
+        """Returns the types of those fields of a class that have a fixed type."""
         self.take("CLASS")
         fields = {}
         for part in split(self.bracket()):
@@ -336,7 +336,7 @@ class Parser:
         return found
 
     def argument(self, part):
-        """What stands for a parameter: a type, a number, a value's name, or nothing."""
+        """Returns an argument for a parameter: a type, a number, the name of a value, or None."""
         if not part or part[0].text == "{":
             return None
         if len(part) == 1 and part[0].kind == "number":
@@ -358,7 +358,7 @@ class Parser:
         return Tagged(line, Tag(cls, number, mode, line), self.type())
 
     def number(self, what):
-        """A number, or a name that was given one."""
+        """Returns a number, or the value of a name that stands for one."""
         token = self.now
         if token.kind == "number" and re.fullmatch(r"-?\d+", token.text):
             self.step()
@@ -415,7 +415,7 @@ class Parser:
         return found
 
     def default(self):
-        """A value, as one line."""
+        """Returns a value, as one line."""
         start = self.now
         if start.text == "{":
             self.bracket()
@@ -426,7 +426,10 @@ class Parser:
         return self.said(start)
 
     def numbered(self, line, word):
-        """INTEGER, ENUMERATED or BIT STRING with names. An ENUMERATED may leave numbers out."""
+        """Parses the names in an INTEGER, ENUMERATED or BIT STRING.
+
+        In an ENUMERATED, a name can be without a number.
+        """
         self.take("{")
         roots, others, extensible = [], [], False
         while not self.took("}"):
@@ -486,7 +489,7 @@ class Parser:
 
 
 def split(tokens):
-    """The parts between commas outside brackets."""
+    """Returns the parts between commas that are outside of brackets."""
     parts, depth = [[]], 0
     for token in tokens:
         depth += (token.text in PAIRS) - (token.text in PAIRS.values())
@@ -498,7 +501,7 @@ def split(tokens):
 
 
 def ranges_of(tokens):
-    """The ranges that tokens say, and whether others may come; None for anything else."""
+    """Returns the ranges of a constraint, and whether it is extensible; or None, False."""
     found, extensible = [], False
     for part in split(tokens):
         if [token.text for token in part] == ["..."]:
@@ -513,7 +516,7 @@ def ranges_of(tokens):
 
 
 def alternatives(tokens):
-    """The words between the bars of a union."""
+    """Returns the parts of a union, which bars separate."""
     words = [[]]
     for token in tokens:
         if token.text in ("|", "UNION"):
@@ -524,5 +527,5 @@ def alternatives(tokens):
 
 
 def is_bound(word):
-    """Whether a word is the end of a range: a whole number, MIN, MAX or the name of a value."""
+    """Returns whether a word is the end of a range: a number, MIN, MAX or the name of a value."""
     return word in ("MIN", "MAX") or bool(re.fullmatch(r"-?\d+|[a-z][A-Za-z0-9-]*", word))

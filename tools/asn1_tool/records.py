@@ -9,12 +9,12 @@ from .syntax import Refused
 
 @dataclasses.dataclass(frozen=True)
 class Column:
-    """A field of a record, with what stands for it."""
+    """A field of a record, and its Rust form."""
 
     label: str
     form: object
     optional: bool
-    # What codes the field where it has a default: the type, and the pattern that wraps a value.
+    # If the field has a default: the type that codes it, and its wrapper.
     default: object = None
 
     @property
@@ -27,7 +27,7 @@ class Column:
 
     @property
     def owned(self):
-        """The type of the field."""
+        """Returns the type of the field."""
         text = self.form.rust.text
         return f"Option<{text}>" if self.optional else text
 
@@ -37,7 +37,7 @@ class Column:
         return f"{self.mode.capitalize()}<{text}, {self.form.number}>" if self.mode else text
 
     def row(self, by_hand):
-        """The type in the row."""
+        """Returns the type of the field in the row."""
         if self.default:
             return f"WithDefault<{self.tagged}>"
         found = f"Option<{self.tagged}>" if self.optional else self.tagged
@@ -45,7 +45,7 @@ class Column:
 
     @property
     def word(self):
-        """The field in the notation of `read_row!` and `lend!`; None where they lack it."""
+        """Returns the field as `read_row!` and `lend!` write it, or None if they can't."""
         words = [self.mode, str(self.form.number)] if self.mode else []
         if self.default and self.default.wrapper:
             return None
@@ -54,7 +54,7 @@ class Column:
         return f"{self.label}: {' '.join(words)}" if words else self.label
 
     def term(self, side, value):
-        """The ghost term of what is read (`plain`) or written for a field."""
+        """Returns the ghost term for a decoded (`plain`) or encoded (`written`) field."""
         of = self.form.rust.text
         if self.mode == "implicit":
             found = f"⟦<{of} as ShapedValue>⟧.value_{side}"
@@ -65,7 +65,7 @@ class Column:
         return f"{found} {value}.{self.label}"
 
     def lend(self, of):
-        """The expression that lends the field of a value."""
+        """Returns the expression that borrows the field of a value."""
         value, number = f"{of}.{self.label}", self.form.number
         if self.default:
             inner = self.default.wrapped(value)
@@ -81,7 +81,7 @@ class Column:
 
     @property
     def back(self):
-        """The field's value, of what the row has read."""
+        """Returns the expression that takes the field's value from the row."""
         if self.optional and self.mode:
             return f"{self.mode}_of({self.label})"
         if not self.mode and not self.default:
@@ -90,7 +90,7 @@ class Column:
         return self.default.unwrapped(value) if self.default else value
 
     def uses(self):
-        """What names of the library the struct and its row need."""
+        """Returns the paths of the library that the struct and its row need."""
         found = set(self.form.rust.uses) | set(self.inner.uses)
         found.add("der_core::ShapedValue" if self.mode == "implicit" else "der_core::Shaped")
         if self.mode:
@@ -127,13 +127,13 @@ class Record:
         return Column(names.snake(field.name), form, field.optional)
 
     def check(self):
-        """Refuses fields whose presence can't be told, and names that aren't told apart."""
+        """Rejects optional fields that no tag tells apart, and two fields with the same name."""
         fields, line = self.definition.type.fields, self.definition.line
         if not fields:
             raise Refused(line, "a SEQUENCE without fields can't be written")
         labels = [it.label for it in self.columns]
         if len(set(labels)) < len(labels):
-            raise Refused(line, f"two fields of {self.name} would have one name")
+            raise Refused(line, f"two fields of {self.name} would have the same name in Rust")
         for at, (field, column) in enumerate(zip(fields, self.columns)):
             for other, its in zip(fields[at + 1 :], self.columns[at + 1 :]):
                 if not self.may_miss(field):
@@ -164,13 +164,18 @@ class Record:
         uses = self.crate.imports(self.name, self.uses)
         return "\n\n".join([f"//! {self.rust}.", "\n".join(ghosts), uses, *parts]) + "\n"
 
-    def answer(self):
-        """The file of the proof that the rows are those of the record, and its text."""
-        path = f"{names.module(self.name)}/{self.rust}Rows/with_rows"
-        return f"proofs/{path}/Answers.antt", ANSWER.format(
-            crate=self.crate.name, path=path.replace("/", "."),
-            call="take_lent" if self.by_hand else "lend",
-        )
+    def answers(self):
+        """Yields the path and the text of the proofs of `with_rows` and, if there is a default, of
+        `decode_fields`."""
+        found = [("Rows/with_rows", LENT)]
+        if not self.by_hand and any(it.default for it in self.columns):
+            found.append(("DecodeFields/decode_fields", READ))
+        for function, text in found:
+            path = f"{names.module(self.name)}/{self.rust}{function}"
+            yield f"proofs/{path}/Answers.antt", text.format(
+                crate=self.crate.name, path=path.replace("/", "."),
+                call="take_lent" if self.by_hand else "lend",
+            )
 
     def struct(self):
         notes = ["Other fields are rejected."] if self.definition.type.extensible else []
@@ -244,11 +249,22 @@ class Record:
                               else "der_core::EncodeRef")
 
 
-ANSWER = """\
+LENT = """\
 -- What is lent are the fields of the record.
 use Rattle.std.proofs.Common.{{rules}}
 use Rattle.{crate}.proofs.{path}.Goals as goal
 
 pub returns : goal.returns
 returns g c = c.{call}.ensures _ _ (search rules) (search rules)
+"""
+
+READ = """\
+-- A field with a default is decoded as `default_at` says.
+use Rattle.std.proofs.Common.{{rules}}
+use Rattle.der_core.specs.Grammar.{{default_at}}
+use Rattle.{crate}.proofs.{path}.Goals as goal
+
+pub returns : goal.returns
+unfolding default_at
+returns g c = search rules
 """

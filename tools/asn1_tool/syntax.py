@@ -7,7 +7,7 @@ import typing
 
 
 class Refused(Exception):
-    """What can't be written, with its line in the module."""
+    """An error: something can't be parsed or written. It has the line in the module."""
 
     def __init__(self, line: int, reason: str):
         super().__init__(reason)
@@ -16,7 +16,7 @@ class Refused(Exception):
 
 @dataclasses.dataclass(frozen=True)
 class Tag:
-    """A tag. `mode` is IMPLICIT, EXPLICIT or, where the module's default applies, None."""
+    """A tag. `mode` is IMPLICIT or EXPLICIT, or None if the module's default applies."""
 
     cls: str
     number: int
@@ -51,14 +51,14 @@ class Type:
 
 @dataclasses.dataclass
 class Plain(Type):
-    """A type that is one word or two, as BOOLEAN or OCTET STRING."""
+    """A type whose name is one word or two, such as BOOLEAN or OCTET STRING."""
 
     word: str
 
 
 @dataclasses.dataclass
 class Named(Type):
-    """A reference to a type by its name, with what stands for its parameters."""
+    """A reference to a type by its name, with the arguments for its parameters."""
 
     name: str
     arguments: list[Argument] = dataclasses.field(default_factory=list)
@@ -66,12 +66,12 @@ class Named(Type):
 
 @dataclasses.dataclass
 class Open(Type):
-    """A value of any type: ANY, or the type that a field of a class leaves open."""
+    """A value of any type: ANY, or an open type of a class."""
 
 
 @dataclasses.dataclass
 class ClassField(Type):
-    """The type of a field of a class, as ALGORITHM.&id."""
+    """The type of a field of a class, such as ALGORITHM.&id."""
 
     cls: str
     field: str
@@ -88,7 +88,7 @@ class Item:
 
 @dataclasses.dataclass
 class Numbered(Type):
-    """INTEGER, ENUMERATED or BIT STRING with names."""
+    """An INTEGER, ENUMERATED or BIT STRING with named numbers or bits."""
 
     word: str
     items: list[Item]
@@ -104,7 +104,7 @@ class Field:
     line: int
     optional: bool = False
     default: str | None = None
-    # It was added after an extension mark.
+    # It comes after an extension marker.
     is_addition: bool = False
 
 
@@ -118,7 +118,7 @@ class ComponentsOf:
 
 @dataclasses.dataclass
 class Structure(Type):
-    """SEQUENCE, SET or CHOICE with its fields."""
+    """A SEQUENCE, SET or CHOICE with its fields."""
 
     word: str
     fields: list[Field | ComponentsOf]
@@ -127,7 +127,7 @@ class Structure(Type):
 
 @dataclasses.dataclass
 class ListOf(Type):
-    """SEQUENCE OF or SET OF."""
+    """A SEQUENCE OF or SET OF."""
 
     word: str
     member: Type
@@ -139,7 +139,7 @@ class Tagged(Type):
     inner: Type
 
 
-# What stands for a parameter: a type, a number or the name of a value, or nothing of use here.
+# An argument for a parameter: a type, a number, the name of a value, or None for anything else.
 Argument = typing.Union[Type, int, str, None]
 
 
@@ -159,19 +159,19 @@ class Module:
     name: str = ""
     tags: str = "EXPLICIT"
     types: dict[str, Definition] = dataclasses.field(default_factory=dict)
-    # Values in braces that may be object identifiers: the type, the arcs, the line.
+    # Values in braces that can be object identifiers: the type, the arcs and the line.
     values: dict[str, tuple[Type, list[int | str], int]] = dataclasses.field(default_factory=dict)
     numbers: dict[str, int] = dataclasses.field(default_factory=dict)
-    # Of each class the types of its fields with a fixed type.
+    # For each class, the types of those fields that have a fixed type.
     classes: dict[str, dict[str, Type]] = dataclasses.field(default_factory=dict)
-    # Sets of values, objects and sets of objects, which have no bytes.
+    # Sets of values, objects and sets of objects, which aren't encoded.
     others: dict[str, int] = dataclasses.field(default_factory=dict)
     # The module from which a name is imported, and the line.
     imports: dict[str, tuple[str, int]] = dataclasses.field(default_factory=dict)
 
 
 class Report:
-    """The errors and notes on a module, each with its line."""
+    """The errors and notes about a module, each with its line."""
 
     def __init__(self, path):
         self.path, self.errors, self.notes = path, [], []
