@@ -1,0 +1,5 @@
+pub mod FirstFields
+pub mod ChainSteps
+pub mod PathSteps
+pub mod PathLaws
+pub mod Subjects

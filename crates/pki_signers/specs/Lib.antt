@@ -1,0 +1,4 @@
+pub mod Followed
+pub mod Fields
+pub mod Signers
+pub mod Paths

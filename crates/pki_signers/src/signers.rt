@@ -1,0 +1,105 @@
+//! The certificate of a signer among the certificates of a bundle.
+
+ghost use Rattle.std.specs.Prelude.{◌≡◌, ◌<◌, length, IfSome};
+ghost use Rattle.std.specs.List.{position};
+ghost use Rattle.cert_desk_checking.specs.Oid.Bound.{Bound};
+ghost use Rattle.cert_desk_checking.specs.Der.Shapes.{IsValid};
+ghost use Rattle.cert_desk_checking.specs.CertCertificates.Certificates.{raw_certificate};
+ghost use Rattle.cert_desk_checking.specs.CertCertificates.Views.{certificate_plain};
+ghost use Rattle.cert_desk_checking.specs.CertCertificates.CertNames.Views.{name_plain};
+ghost use Rattle.pki_signers.specs.Signers.{has_issuer_and_serial, has_key_hash, has_subject};
+
+use cert_desk_checking::desk_bundle::Bundle;
+use cert_desk_checking::is_issued_by;
+use sha1::Sha1;
+use x509_cert_certificates::CertificateInner;
+use x509_cert_certificates::cert_names::Name;
+use x509_cert_certificates::cert_parts::{Raw, SerialNumber};
+
+/// Returns the index of the first certificate with this issuer and this serial number, which
+/// together identify a certificate (RFC 5280 4.1.2.2; issuerAndSerialNumber of RFC 5652 10.2.4).
+pub fn find_by_issuer_and_serial(
+    certificates: &Bundle,
+    issuer: &Name,
+    serial_number: &SerialNumber<Raw>,
+) -> Option<usize>
+    ensures found { result ≡ position
+        (has_issuer_and_serial Bound (name_plain issuer.now) serial_number.now)
+        certificates.now.certificates }
+    ensures within { IfSome result (λ place. place < length certificates.now.certificates) }
+{
+    for place in 0..certificates.len() {
+        let entry = certificates.get(place).unwrap();
+        if has_issuer_and_serial(entry.certificate, issuer, serial_number) {
+            return Some(place);
+        }
+    }
+    None
+}
+
+// Returns whether a certificate has this issuer and this serial number.
+fn has_issuer_and_serial(
+    certificate: &CertificateInner<Raw>,
+    issuer: &Name,
+    serial_number: &SerialNumber<Raw>,
+) -> bool
+    requires { IsValid (raw_certificate Bound) (certificate_plain certificate.now) }
+    ensures { result ≡ has_issuer_and_serial Bound (name_plain issuer.now) serial_number.now
+        (certificate_plain certificate.now) }
+{
+    let own = certificate.tbs_certificate().serial_number();
+    if own.as_bytes() == serial_number.as_bytes() {
+        return is_issued_by(certificate, issuer);
+    }
+    false
+}
+
+/// Returns the index of the first certificate with this subject (byName of RFC 6960 4.2.1).
+pub fn find_by_subject(certificates: &Bundle, subject: &Name) -> Option<usize>
+    ensures found { result ≡ position (has_subject Bound (name_plain subject.now))
+        certificates.now.certificates }
+    ensures within { IfSome result (λ place. place < length certificates.now.certificates) }
+{
+    for place in 0..certificates.len() {
+        let entry = certificates.get(place).unwrap();
+        if has_subject(entry.certificate, subject) {
+            return Some(place);
+        }
+    }
+    None
+}
+
+// Returns whether a certificate has this subject, byte for byte.
+fn has_subject(certificate: &CertificateInner<Raw>, subject: &Name) -> bool
+    requires { IsValid (raw_certificate Bound) (certificate_plain certificate.now) }
+    ensures { result ≡ has_subject Bound (name_plain subject.now)
+        (certificate_plain certificate.now) }
+{
+    certificate
+        .tbs_certificate()
+        .subject()
+        .has_octets_of(subject)
+}
+
+/// Returns the index of the first certificate whose key has this SHA-1 digest (byKey of RFC 6960
+/// 4.2.1). It is computed over the bytes of the key's bit string.
+pub fn find_by_key_hash(certificates: &Bundle, key_hash: &[u8]) -> Option<usize>
+    ensures found { result ≡ position (has_key_hash key_hash.now) certificates.now.certificates }
+    ensures within { IfSome result (λ place. place < length certificates.now.certificates) }
+{
+    for place in 0..certificates.len() {
+        let entry = certificates.get(place).unwrap();
+        if has_key_hash(entry.certificate, key_hash) {
+            return Some(place);
+        }
+    }
+    None
+}
+
+// Returns whether this is the SHA-1 digest of a certificate's key.
+fn has_key_hash(certificate: &CertificateInner<Raw>, key_hash: &[u8]) -> bool
+    ensures { result ≡ has_key_hash key_hash.now (certificate_plain certificate.now) }
+{
+    let key = certificate.tbs_certificate().subject_public_key_info();
+    key_hash == Sha1::digest(key.subject_public_key.raw_bytes()).as_slice()
+}

@@ -1,0 +1,3 @@
+pub mod FindSteps
+pub mod FunctionSteps
+pub mod IdentifiedLaws
