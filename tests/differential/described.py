@@ -4,11 +4,12 @@
     described.py TOOL [--built N] [--changed N]
 
 It describes the roots of ca-certificates, the files of the test vectors, CSRs with keys on every
-curve of OpenSSL, and certificates, CRLs and CSRs with every extension: those that Python's `cryptography` builds (built.py), and those that
-OpenSSL built or that were put together byte by byte (described.txt). pyasn1 reads them by its
-modules of RFC 5280 and RFC 2986, and OpenSSL reads the keys. What they read becomes a document like
-that of `cert_tool describe --json`. If `cert_tool` names an object identifier, OpenSSL or
-`cryptography` has to have that name for it. No signature is verified.
+curve of OpenSSL, and certificates, CRLs and CSRs with every extension: those that Python's
+`cryptography` builds (built.py), and those that OpenSSL built or that were put together byte by
+byte (described.txt). pyasn1 reads them by its modules of RFC 5280 and RFC 2986, and OpenSSL reads
+the keys. What they read becomes a document like that of `cert_tool describe --json`. If `cert_tool`
+names an object identifier, OpenSSL or `cryptography` has to have that name for it. No signature is
+verified.
 
 Of these values, and of each test vector of `describe`, `explain`, `verify` and `split`, the lines
 have to be those that lines.py makes of the JSON. Values with changes (mutated.py) have to be
@@ -26,6 +27,7 @@ import difflib
 import functools
 import hashlib
 import ipaddress
+import itertools
 import json
 import pathlib
 import random
@@ -183,7 +185,7 @@ def extension(of):
     if kind in EXTENSIONS:
         of = decode(content, CONTENTS[kind])[0]
         # DER has no zeros at the end of named bits (X.690 11.2.2), and pyasn1 accepts some BER.
-        has_zero = isinstance(of, rfc5280.KeyUsage) and not of.asInteger() & 1
+        has_zero = isinstance(of, rfc5280.KeyUsage) and len(of) and not of.asInteger() & 1
         if has_zero or encode(of) != content:
             return found | {"malformed": True, "octets": octets(content)}
         return found | ({EXTENSIONS[kind]: told(of)} if EXTENSIONS[kind] else told(of))
@@ -350,7 +352,10 @@ def curve(said, parameters):
     a, b = (octets(int(said[label], 16).to_bytes(length, "big")) for label in "AB")
     generator = octets(bytes.fromhex(said["Generator (uncompressed)"]))
     prime, order = (number_said(said[label]) for label in ("Prime", "Order"))
-    return {"prime": prime, "a": a, "b": b, "generator": generator, "order": order}
+    found = {"prime": prime, "a": a, "b": b}
+    found |= {"seed": octets(bytes.fromhex(said["Seed"]))} if "Seed" in said else {}
+    found |= {"generator": generator, "order": order}
+    return found | ({"cofactor": number_said(said["Cofactor"])} if "Cofactor" in said else {})
 
 
 def curves():
@@ -359,7 +364,8 @@ def curves():
     said = run(["openssl", "ecparam", "-list_curves"], check=True).stdout.decode()
     for name in re.findall(r"^ +([\w.-]+) *:", said, re.M):
         made = run(["openssl", "ecparam", "-name", name, "-genkey", "-noout"]).stdout
-        words = ["openssl", "req", "-new", "-key", "/dev/stdin", "-subj", "/CN=a", "-outform", "DER"]
+        words = ["openssl", "req", "-new", "-key", "/dev/stdin", "-subj", "/CN=a"]
+        words += ["-outform", "DER"]
         encoded = run(words, input=made).stdout
         if encoded:
             yield name, encoded
@@ -367,6 +373,8 @@ def curves():
 
 def key(of):
     said, found = key_text(encode(of)), algorithm(of["algorithm"])
+    if ("Modulus" in said or "P" in said) and len(of["subjectPublicKey"]) % 8:
+        raise ValueError("OpenSSL reads numbers of a key that has unused bits")
     if "Public-Key" in said:
         found["bits"] = int(said["Public-Key"].strip("()").removesuffix(" bit"))
     match said:
@@ -486,8 +494,10 @@ def known_names():
         names[found[3]].update(filter(None, found.groups()[:2]))
     for identifier, word in _OID_NAMES.items():
         names[identifier.dotted_string].add(word)
-    # szOID_ENROLL_CERTTYPE_EXTENSION ([MS-WCCE] 2.2.2.7.7)
+    # szOID_ENROLL_CERTTYPE_EXTENSION and szOID_CERTIFICATE_TEMPLATE ([MS-WCCE] 2.2.2.7.7). Only
+    # later versions of `cryptography` name the second.
     names["1.3.6.1.4.1.311.20.2"].add("enrollCertType")
+    names["1.3.6.1.4.1.311.21.7"].add("msCertificateTemplate")
     return names
 
 
@@ -526,7 +536,7 @@ def lines_in(text):
 
 def is_safe(document):
     """Returns whether a document has none of the characters that JSON can escape and has to."""
-    kinds = {unicodedata.category(letter) for letter in document.decode().removesuffix("\n")}
+    kinds = {unicodedata.category(letter) for line in lines_in(document) for letter in line}
     return not kinds & {"Cc", "Cf", "Zl", "Zp", "Cs", "Co"}
 
 
@@ -552,9 +562,14 @@ class Comparer:
         text = re.sub(rb"((?:salt|trailer) \d+) by default", rb"\1", told[1])
         wanted = [f"status {told[0]}", *lines_in(told[2]), *lines_in(text)]
         given = [f"status {status}", *lines_in(errors)]
-        if document:
-            read = json.loads(document.decode(), object_pairs_hook=once)
-            given += lines.DOCUMENTS[words[0]](read)
+        documents = (lines.DOCUMENTS[words[0]](json.loads(line, object_pairs_hook=once))
+                     for line in lines_in(document))
+        if b'file "' in text[:6]:  # of several files, a line before the description of each
+            for named, after in itertools.pairwise([*lines_in(text), 'file "']):
+                is_described = named.startswith('file "') and not after.startswith('file "')
+                given += [named] * named.startswith('file "')
+                given += next(documents, ["no document"]) if is_described else []
+        given += itertools.chain.from_iterable(documents)
         given += [] if is_safe(document) else ["a character that isn't printable"]
         given += [line for line in wanted if not line.isprintable()]
         self.compare("JSON", " ".join(words), wanted, given)

@@ -48,13 +48,13 @@ LABELS = "a b A bc xn--a 1 a-b a_b * ** a* *a -a".split() + [""]
 HOST_LABELS = "a b A B bc BC xn--a XN--A 1 a-b a_b".split()
 ADDRESSES = "192.0.2.1 192.0.2.2 2001:db8::1 2001:DB8:0::0001 ::ffff:192.0.2.1 ::".split()
 USES = {"": None, "signature": 0, "encipherment": 2, "agreement": 4, "certificates": 5, "lists": 6}
-NEVER_JUDGED = {
-    "2.5.29.30": "nameConstraints",
+OF_POLICIES = {
     "2.5.29.32": "certificatePolicies",
     "2.5.29.33": "policyMappings",
     "2.5.29.36": "policyConstraints",
     "2.5.29.54": "inhibitAnyPolicy",
 }
+NEVER_JUDGED = {"2.5.29.30": "nameConstraints"} | OF_POLICIES
 OF_THE_LAST = NEVER_JUDGED | {"2.5.29.15": "keyUsage"}
 OF_ANCHORS = OF_THE_LAST | {"2.5.29.19": "basicConstraints", "2.5.29.37": "extKeyUsage"}
 OTHERS = ["2.5.29.14", "2.5.29.17", "2.5.29.31", "2.5.29.35", "1.2.3.4"]
@@ -236,15 +236,20 @@ def compare_unjudged(verifier):
         path = ["root"] + ["between"] * chance.randint(0, 3) + ["leaf"]
         chain = [made(*it) for it in zip(path, path[1:])]
         root = b"".join(octets for octets, _ in anchors)
-        words = ("--at", "1780000000", "--json")
-        _, output = verifier.ask(root, [octets for octets, _ in chain], *words)
         named = [chosen for octets, chosen in anchors if der.common_name("root") in octets]
         theirs = {
             "certificates": [names(it, NEVER_JUDGED) for _, it in chain[:-1]]
             + [names(chain[-1][1], OF_THE_LAST)],
             "anchors": [["validity", *names(it, OF_ANCHORS)] for it in named],
         }
-        report.compare(json.loads(output)["unjudged"], theirs, (), anchors, chain)
+        strict = {
+            "certificates": [names(it, OF_POLICIES) for _, it in chain],
+            "anchors": [names(it, OF_POLICIES) for it in named],
+        }
+        for words, expected in [((), theirs), (("--strict",), strict)]:
+            words = ("--at", "1780000000", "--json", *words)
+            _, output = verifier.ask(root, [octets for octets, _ in chain], *words)
+            report.compare(json.loads(output)["unjudged"], expected, (), anchors, chain, words)
     return report.end()
 
 

@@ -126,8 +126,8 @@ def qualifier(of):
 
 
 def timestamp(of):
-    if "malformed" in of:
-        return ["malformed"]
+    if "octets" in of:
+        return members(of)
     date = f"{of['date']} + " if "date" in of else ""
     lines = [f"log {of['logID']}", f"  {date}{of['milliseconds']} ms"]
     lines += [f"  extensions {of['extensions']}"] if "extensions" in of else []
@@ -137,7 +137,12 @@ def timestamp(of):
 def curve(of):
     if "id" in of or "type" in of:
         return [f"curve {value(of)}", *(["  malformed"] if "malformed" in of else [])]
-    return ["curve laid down by its parameters", *indented(members(of))]
+    return ["curve given by its parameters", *indented(members(of))]
+
+
+def item(word):
+    """Returns what makes the lines of an item of a block, which may be malformed."""
+    return lambda of: [word + of] if isinstance(of, str) else [word + value(of), "  malformed"]
 
 
 def block(of):
@@ -146,12 +151,8 @@ def block(of):
         return [value(of)]
     safi = f" SAFI {of['safi']}" if "safi" in of else ""
     inherit = " inherit" if "inherit" in of else ""
-    items = (each if isinstance(each, str) else "malformed" for each in of.get("addresses", []))
+    items = each(item(""))(of.get("addresses", []))
     return [f"{of['addressFamily']}{safi}{inherit}", *indented(items)]
-
-
-def systems(word):
-    return each(lambda of: [f"{word} {of}" if isinstance(of, str) else "malformed"])
 
 
 def extension_heading(of):
@@ -168,20 +169,22 @@ LINES = {
     "subjectUniqueID": "subject-id {}", "signatureValue": "  bits {}", "keyIdentifier": "key {}",
     "saltLength": "salt {}", "trailerField": "trailer {}", "pathLenConstraint": "path length {}",
     "number": "number {}", "reason": "{}", "date": "{}", "octets": "octets {}", "bits": "{} bits",
-    "requireExplicitPolicy": "explicit policy after {}",
-    "inhibitPolicyMapping": "no mapping after {}", "skipCerts": "not anyPolicy after {}",
+    "requireExplicitPolicy": "require explicit policy after {}",
+    "inhibitPolicyMapping": "inhibit policy mapping after {}",
+    "skipCerts": "inhibit anyPolicy after {}",
     "authorityCertSerialNumber": "serial {}", "iPAddress": "IP {}",
     "minimum": "  minimum {}", "maximum": "  maximum {}",
-    "onlyContainsUserCerts": "end-entity certificates alone",
-    "onlyContainsCACerts": "CA certificates alone",
-    "onlyContainsAttributeCerts": "attribute certificates alone",
-    "indirectCRL": "certificates of other issuers too",
+    "onlyContainsUserCerts": "only end-entity certificates",
+    "onlyContainsCACerts": "only CA certificates",
+    "onlyContainsAttributeCerts": "only attribute certificates",
+    "indirectCRL": "also certificates of other issuers",
     "unusedBits": "unused bits {}", "unread": "not read here: {}",
     "templateMajorVersion": "major version {}", "templateMinorVersion": "minor version {}",
     "cA": lambda of: [f"authority {'yes' if of else 'no'}"],
     "nameRelativeToCRLIssuer": lambda of: [f"below the issuer {shown(of)}"],
     "value": lambda of: [value(of)],
     "field": lambda of: [f"field {value(of)}"],
+    "hash": lambda of: [f"hash {value(of)}"],
     "organization": lambda of: [f"of {value(of)}"],
     "explicitText": lambda of: [f"text {value(of)}"],
     "noticeRef": each(members),
@@ -204,8 +207,8 @@ LINES = {
     "parameters": lambda of: [f"parameters {value(of)}"] if "type" in of else [],
     "templateID": lambda of: [f"template {identifier(of)}"],
     "addressBlocks": each(block),
-    "asnum": systems("AS"),
-    "rdi": systems("routing domain"),
+    "asnum": each(item("AS ")),
+    "rdi": each(item("routing domain ")),
     "uses": list,
     "types": list,
     "purposes": each(lambda of: [identifier(of)]),
@@ -233,7 +236,7 @@ LINES |= dict.fromkeys(
 )
 LINES |= {
     key: key + " {}"
-    for key in "modulus exponent point p q g public prime a b generator order".split()
+    for key in "modulus exponent point p q g public prime a b seed generator order cofactor".split()
     + [f"{of}-sha{size}" for of in ("certificate", "list", "request", "key") for size in (1, 256)]
     + ["key-bits-sha1", "key-pin-sha256"]
 }
@@ -274,6 +277,10 @@ def broken_rule(of):
     yield from indented(map(shown, of.get("details", [])))
 
 
+def unmet(of):
+    return [f"not met at {of['place']}: {of['limit']}: {of['reason']}{section(of)}"]
+
+
 def certificate(of):
     yield f"certificate {of['certificate']}, {shown(of['subject'])}"
     yield from indented(explained(of))
@@ -309,6 +316,7 @@ FINDINGS = {
     "finding": finding,
     "remark": remark,
     "rule": broken_rule,
+    "limit": unmet,
     "findings": certificate,
     "path": fault,
     "certificate": stream_fault,

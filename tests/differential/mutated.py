@@ -241,7 +241,7 @@ def spellings(program, paths):
             refused[kind] += takes and not is_read_by_openssl(octets)
     print(f"{len(paths)} certificates")
     for kind, count in tried.items():
-        of = f"{taken[kind]} taken, {refused[kind]} of these refused by OpenSSL"
+        of = f"{taken[kind]} accepted, {refused[kind]} of these rejected by OpenSSL"
         print(f"{kind}: {count} tried, {of}, {wrong[kind]} of the answers differ")
     return wrong.total()
 

@@ -12,8 +12,9 @@ so there is a minimum for each project. Since cert_tool builds no paths, this sc
 from the end-entity certificate to an anchor, by names; a chain is trusted if one of its paths is.
 examples/answer.py verifies the signatures. If a suite expects another result, the difference gets a
 class: for a trusted chain, what the suite tests and cert_tool doesn't; for a rejected chain, the
-rule that it breaks. The status is 1 if a chain is trusted although a rule of cert_tool should
-reject it, or if a difference has no class.
+rule that it breaks. Each path is also tried with --strict; if no path is trusted then, the class is
+the limit that the chain breaks. The status is 1 if a chain is trusted although a rule of cert_tool
+should reject it, or if a difference has no class.
 """
 
 import argparse
@@ -31,7 +32,8 @@ import tempfile
 import warnings
 
 HERE = pathlib.Path(__file__).resolve().parent
-sys.path[:0] = [str(HERE.parents[1] / it) for it in ("examples", "tools", "tests")]
+TOP = HERE.parents[1]
+sys.path[:0] = [str(TOP / it) for it in ("examples", "tools", "tests")]
 
 import needs
 
@@ -296,7 +298,7 @@ def purpose_of(way):
     """Returns a purpose that all certificates allow, or else one of the last certificate."""
     listed = [found for found in map(purposes, way) if found]
     each = [one for one in (listed or [[]])[-1] if all(one in found for found in listed)]
-    return (each or purposes(way[-1]) or ["serverAuth"])[0]
+    return (each or purposes(way[-1]) or ["anyExtendedKeyUsage"])[0]
 
 
 # The verdicts of cert_tool.
@@ -324,7 +326,8 @@ LOOSER = {
                 r"rsa pss: chain with (sha1|diff)",
     "trust settings of OpenSSL": r"with trust settings",
     "strict mode": r"x509_strict|VERIFY_DO_NOT_ALLOW_SAME",
-    "key usage of the end entity": r"does not allow the requested usage|explicit curve leaf",
+    "key usage of the end entity": r"does not allow the requested usage",
+    "key of the end entity": r"explicit curve leaf",
     "versions": r"with version that does not allow it",
     "anchors": r"(?!)",
 }
@@ -337,6 +340,11 @@ STRICTER = {
     "not a CA": r"NotAuthority",
     "not DER": r"(fault|MalformedExtension|anchors)",
 }
+# The limits of --strict (docs/CLI.md).
+LIMITS = ["WrongKeyUsage", "ConstrainedNames"] + [f"Anchor{it}" for it in (
+    "ConstrainedNames", "Expired", "NotYetValid", "NotAuthority", "PathTooLong", "AgainstPurpose",
+    "UnweighedCritical", "MalformedExtension", "DuplicateExtension",
+)]
 
 
 def text_of(tag, contents, _):
@@ -424,31 +432,40 @@ def broken(tool, words, inputs, place):
 
 
 def verdict(tool, test, way):
-    """Returns the line of `verify`, and what explains it."""
+    """Returns the line of `verify` with what explains it, and the limit that a trusted chain breaks
+    with --strict: "" if it breaks none."""
     words, inputs, refused = terms(tool, test, way)
-    _, output, errors = tool.ask(["verify", *words], inputs)
-    line = (output + errors).decode().partition("\n")[0]
+
+    def first_line(*more):
+        _, output, errors = tool.ask(["verify", *words, *more], inputs)
+        return (output + errors).decode().partition("\n")[0]
+
+    line, strict = first_line(), first_line("--strict")
+    limit = "" if line == strict else strict.split()[2]
+    if limit and not (line.startswith("trusted") and limit in LIMITS):
+        raise ValueError(f"{line}; with --strict: {strict}")
     if line.startswith("refused"):
         place, rule = line.split()[1:3]
         line += f": {rule}: {broken(tool, words, inputs, int(place)).get(rule, '')}"
         line += f" {refused}" if rule == "WrongSignature" else ""
-    return line
+    return line, limit
 
 
-Judged = collections.namedtuple("Judged", "test line kind")
+Judged = collections.namedtuple("Judged", "test line kind limit")
 
 
 def judged(tool, test):
-    """Runs a test. Returns the verdict, and whether it agrees or the class of the difference."""
-    lines, tried = [], ways(test)
-    for way in tried:
-        lines.append(verdict(tool, test, way))
-        if lines[-1].startswith("trusted"):
-            agrees = "agrees" if test.good else looser(tool, test, way)
-            return Judged(test, lines[-1], agrees)
-    line, way = lines[0], tried[0]
+    """Runs a test. Returns the verdict, whether it agrees or the class of the difference, and the
+    limit that a trusted chain breaks with --strict, or "", or None for a rejected chain."""
+    tried = [(*verdict(tool, test, way), way) for way in ways(test)]
+    trusted = [each for each in tried if each[0].startswith("trusted")]
+    if trusted:
+        kinds = ["agrees"] if test.good else [looser(tool, test, way) for *_, way in trusted]
+        limit = "" if "" in (it[1] for it in trusted) else trusted[0][1]
+        return Judged(test, trusted[0][0], next(filter(None, kinds), None), limit)
+    line, _, way = tried[0]
     if not test.good:
-        return Judged(test, line, "agrees")
+        return Judged(test, line, "agrees", None)
     if "WrongIssuer" in line and test.end in test.anchors:
         line += " the end is an anchor itself"
     elif "WrongIssuer" in line and is_anchored(test, way) and all(
@@ -456,7 +473,8 @@ def judged(tool, test):
     ):
         line += " names that differ in their octets alone"
     said = re.sub(r"^refused \d+ ", "", line)
-    return Judged(test, line, next((it for it in STRICTER if re.match(STRICTER[it], said)), None))
+    kind = next((it for it in STRICTER if re.match(STRICTER[it], said)), None)
+    return Judged(test, line, kind, None)
 
 
 def looser(tool, test, way):
@@ -482,25 +500,44 @@ def table(heads, rows):
 
 
 def tables(all_judged, versions):
-    """Yields the tables of the page: by suite, then by class."""
-    counts, total = collections.defaultdict(collections.Counter), collections.Counter()
+    """Yields the tables of the page: by suite, by class, by suite with --strict, and by limit."""
+    counts, strict = (collections.defaultdict(collections.Counter) for _ in range(2))
     for one in all_judged:
-        agrees, good = one.kind == "agrees", one.test.good
+        agrees, good, is_strict = one.kind == "agrees", one.test.good, one.limit == ""
         found = [True, good, agrees, not agrees and not good, not agrees and good]
-        counts[one.test.suite].update(dict(enumerate(found)))
-        total.update(dict(enumerate(found)))
+        by_limits = [one.limit is not None, is_strict, good == is_strict, is_strict and not good,
+                     good and not is_strict]
+        for suite in one.test.suite, "all":
+            counts[suite].update(dict(enumerate(found)))
+            strict[suite].update(dict(enumerate(by_limits)))
     heads = ["Suite", "Version", "Chains", "Suite trusts", "Same result", "Only Wurstdrape trusts",
              "Only the suite trusts"]
-    rows = [[suite, versions[suite.partition(",")[0]], *found.values()]
-            for suite, found in counts.items()]
-    yield table(heads, [*rows, ["all", "", *total.values()]])
-    for classes, good in (LOOSER, False), (STRICTER, True):
-        rows = []
-        for kind in classes:
-            found = [it.test.suite for it in all_judged if it.kind == kind and it.test.good == good]
-            which = (f"{it.replace(', ', '/')} {n}" for it, n in collections.Counter(found).items())
-            rows += [[kind, len(found), "; ".join(which)]] if found else []
-        yield table(["Class", "Chains", "Which"], rows)
+    versions["all"] = ""
+    suites = [*dict.fromkeys(one.test.suite for one in all_judged), "all"]
+    yield table(heads, [[suite, versions[suite.partition(",")[0]], *counts[suite].values()]
+                        for suite in suites])
+
+    def which(found):
+        names = collections.Counter(it.test.suite.replace(", ", "/") for it in found)
+        return "; ".join(f"{it} {n}" for it, n in names.items())
+
+    rows = []
+    for kind in LOOSER:
+        found = [it for it in all_judged if it.kind == kind]
+        kept = sum(it.limit == "" for it in found)
+        rows += [[kind, len(found), kept, which(found)]] if found else []
+    yield table(["Class", "Chains", "With `--strict`", "Which"], rows)
+    found = [(kind, [it for it in all_judged if it.kind == kind]) for kind in STRICTER]
+    rows = [[kind, len(those), which(those)] for kind, those in found if those]
+    yield table(["Class", "Chains", "Which"], rows)
+    heads = ["Suite", "Trusted without", "Trusted", *heads[4:]]
+    yield table(heads, [[suite, *strict[suite].values()] for suite in suites])
+    rows = []
+    for limit in LIMITS:
+        found = [it for it in all_judged if it.limit == limit]
+        good = [it for it in found if it.test.good]
+        rows += [[limit, len(found) - len(good), len(good), which(good)]] if found else []
+    yield table(["Limit", "Suite rejects, too", "Suite trusts", "Which of these"], rows)
 
 
 def main():
@@ -516,12 +553,14 @@ def main():
         tests, versions = read_all(folder)
         all_judged = [judged(tool, test) for test in tests]
     for one in all_judged:
-        if one.kind != "agrees":
+        if one.kind != "agrees" or one.limit:
             print(f"{one.test.suite}: {one.test.name}: {one.kind or 'NO CLASS'}: {one.line}"
-                  f" [{one.test.why.strip()}]")
+                  f" {one.limit and f'--strict: {one.limit}' or ''} [{one.test.why.strip()}]")
     missing = sum(one.kind is None for one in all_judged)
     version = tool.ask(["--version"], {})[1].decode().strip()
-    version += ", as `rt` proves and builds it" if program.parent.name == "out" else ", unproved"
+    if "\n## Unreleased\n" in (TOP / "CHANGELOG.md").read_text():
+        version += " with the changes since"
+    version += ", built by `rt`" if program.parent.name == "out" else ", built without proofs"
     told, page = tables(all_judged, versions), HERE / "SUITES.md"
     text = re.sub(r"(^\|.*\n)+", lambda _: next(told), page.read_text(), flags=re.M)
     when = f"({datetime.date.today()}, {version})"
