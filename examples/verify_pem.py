@@ -1,15 +1,20 @@
 #!/usr/bin/env python3
 """Validates a certificate chain in PEM, as a server sends it, under root certificates in PEM.
 
-    verify_pem.py ROOTS CHAIN [--at TIME] [--purpose PURPOSE] [--tool CERT_TOOL]
+    verify_pem.py ROOTS CHAIN [--host NAME] [--strict] [--warn-days DAYS] [--at TIME]
+                  [--purpose PURPOSE] [--tool CERT_TOOL]
 
-ROOTS       trusted root certificates, such as /etc/ssl/certs/ca-certificates.crt
-CHAIN       the server's certificate first, followed by each issuer in turn; other text is ignored
---at        the validation time: `now` (default), a date, or seconds since 1970
---purpose   the key purpose (default: serverAuth)
---tool      the program `cert_tool` (default: beside this script, or built in this repository)
+ROOTS        trusted root certificates, such as /etc/ssl/certs/ca-certificates.crt
+CHAIN        the server's certificate first, followed by each issuer in turn; other text is ignored
+--host       rejects a server's certificate that isn't valid for this DNS name or IP address
+--strict     also checks requirements that aren't among the rules, as `cert_tool verify` does
+--warn-days  the status is 7 if a trusted chain ends within this number of days
+--at         the validation time: `now` (default), a date, or seconds since 1970
+--purpose    the key purpose (default: serverAuth)
+--tool       the program `cert_tool` (default: beside this script, or built in this repository)
 
-It doesn't check the host name or revocation. It is installed as cert_tool_verify_pem.
+`-` is standard input. Host names are checked only with --host, and revocation isn't checked. The
+script is installed as cert_tool_verify_pem.
 
 The first certificate of CHAIN is always the one that is validated. Certificates after the first one
 that a root of ROOTS issued are ignored, such as the root itself; the error output names them. Each
@@ -18,9 +23,10 @@ compared byte for byte.
 
 The script reverses the chain, runs `cert_tool questions`, verifies the signatures with answer.py,
 and runs `cert_tool verify`. If the chain isn't trusted, it also prints what `cert_tool explain`
-says. The status is that of `cert_tool verify`: 0 if the chain is trusted, 1 if it breaks a rule. It
-is 2 if a certificate can't be decoded, 4 if an argument is wrong, ROOTS or CHAIN has no certificate
-or CHAIN is in another order, and 5 if a file or a program can't be read.
+says. The status is 0 if the chain is trusted, 7 if it is trusted and ends soon, and 1 if it breaks
+a rule, or a limit of --host or --strict. It is 2 if a certificate of CHAIN can't be decoded. It is
+4 if an argument is wrong, if ROOTS or CHAIN has no certificate, if ROOTS has one that can't be
+decoded, or if CHAIN is in another order. It is 5 if a file or a program can't be read.
 """
 
 import argparse
@@ -35,7 +41,7 @@ HERE = pathlib.Path(__file__).resolve().parent
 # If this script is installed, the program and the verifier are in its folder.
 TOOLS = HERE / "cert_tool", HERE.parent / "crates/cert_tool/out/cert_tool"
 VERIFIERS = HERE / "cert_tool_answer", HERE / "answer.py"
-REFUSED, FAULTY, ARGUMENTS, DEVICE = 1, 2, 4, 5
+REFUSED, FAULTY, ARGUMENTS, DEVICE, ENDING = 1, 2, 4, 5, 7
 NAME = pathlib.Path(sys.argv[0]).name
 HEADER, FOOTER = "-----BEGIN CERTIFICATE-----", "-----END CERTIFICATE-----"
 
@@ -43,6 +49,13 @@ HEADER, FOOTER = "-----BEGIN CERTIFICATE-----", "-----END CERTIFICATE-----"
 def stop(status, why):
     print(f"{NAME}: {why}", file=sys.stderr)
     sys.exit(status)
+
+
+class Parser(argparse.ArgumentParser):
+    def error(self, message):
+        """Ends with the status of wrong arguments, as `cert_tool` does."""
+        self.print_usage(sys.stderr)
+        stop(ARGUMENTS, message)
 
 
 def there(paths):
@@ -53,7 +66,7 @@ def there(paths):
 def certificates(file):
     """Returns the encodings of the certificates of a PEM file (RFC 7468 5), in their order."""
     try:
-        text = pathlib.Path(file).read_text("latin-1")
+        text = pathlib.Path("/dev/stdin" if file == "-" else file).read_text("latin-1")
     except OSError as why:
         stop(DEVICE, f"cannot read {file}: {why.strerror}")
     found, number = [], 0
@@ -71,6 +84,11 @@ def certificates(file):
     return found
 
 
+def printable(text):
+    """Returns a text that can't move the cursor: characters that aren't printable are escaped."""
+    return "".join(it if it.isprintable() else ascii(it)[1:-1] for it in text)
+
+
 def parts(octets):
     """Returns each of these consecutive encodings, with its content."""
     while octets:
@@ -83,14 +101,15 @@ def parts(octets):
 
 
 class Certificate:
-    """A certificate that was decoded: its number in the file, its bytes and its names."""
+    """A certificate that was decoded: its number in the file, its bytes, its names and its end."""
 
     def __init__(self, number, octets, described):
         self.number = number
         self.octets = octets
-        # The names as text, for messages: no control character reaches the terminal.
+        self.not_after = described["notAfter"]
+        # The names as text, for messages.
         self.issuer_text, self.subject_text = (
-            json.dumps(described[name]["text"])[1:-1] for name in ("issuer", "subject")
+            printable(described[name]["text"]) for name in ("issuer", "subject")
         )
         # The names as bytes (RFC 5280 4.1), after the version, serialNumber and signature.
         signed = next(parts(next(parts(octets))[1]))[1]
@@ -181,6 +200,14 @@ def tell_left_out(chain, count):
         print(f"{NAME}: ignored {certificate}: {why}", file=sys.stderr)
 
 
+def tell_end(chain, count, place):
+    """Prints when the certificate at this index of the reversed chain ends, unless `place` is
+    `anchor`."""
+    if place.isdigit():
+        ending = chain[count - 1 - int(place)]
+        print(f"{NAME}: {ending} is valid until {ending.not_after}", file=sys.stderr)
+
+
 def pass_on(said):
     sys.stdout.buffer.write(said.stdout)
     sys.stdout.flush()
@@ -189,9 +216,12 @@ def pass_on(said):
 
 def main():
     form = argparse.RawDescriptionHelpFormatter
-    parser = argparse.ArgumentParser(description=__doc__, formatter_class=form)
+    parser = Parser(description=__doc__, formatter_class=form)
     parser.add_argument("roots", metavar="ROOTS")
     parser.add_argument("chain", metavar="CHAIN")
+    parser.add_argument("--host", metavar="NAME")
+    parser.add_argument("--strict", action="store_true")
+    parser.add_argument("--warn-days", metavar="DAYS")
     parser.add_argument("--at", default="now", metavar="TIME")
     parser.add_argument("--purpose", default="serverAuth")
     parser.add_argument("--tool", default=there(TOOLS), metavar="CERT_TOOL")
@@ -209,14 +239,18 @@ def main():
         tell_left_out(chain, count)
         run.write("answers", run.answers(questions))
         files = ["chain.der", "--anchors", "anchors.der", "--answers", "answers"]
-        terms = ["--at", words.at, "--purpose", words.purpose]
-        verified = run.tool_says("verify", *files, *terms)
+        terms = [f"--at={words.at}", f"--purpose={words.purpose}"]
+        terms += [f"--host={words.host}"] * (words.host is not None) + ["--strict"] * words.strict
+        warns = [f"--warn-days={words.warn_days}"] * (words.warn_days is not None)
+        verified = run.tool_says("verify", *files, *terms, *warns)
         if verified.returncode == REFUSED:
             # The hints of `verify` are followed here.
             verified.stderr = b""
         pass_on(verified)
         if verified.returncode == REFUSED:
             pass_on(run.tool_says("explain", "chain", *files, *terms))
+        if verified.returncode == ENDING:
+            tell_end(chain, count, verified.stdout.decode().split()[-1])
     sys.exit(verified.returncode)
 
 

@@ -34,8 +34,8 @@ TRUSTED = 'trusted calls=2 "CN=desk.example"'
 # A certificate with other names.
 UNRELATED = LEAF.replace(b"esk", b"usk")
 
-# The name of the test, the certificates of the file, and the expected status, lines of the output
-# and parts of the error output.
+# The name of the test, the certificates of the file, the expected status, lines of the output and
+# parts of the error output, and further options.
 CASES = [
     ("leaf first", [LEAF, INTERMEDIATE], 0, [TRUSTED], []),
     ("the root at the end", [LEAF, INTERMEDIATE, ROOT], 0, [TRUSTED],
@@ -62,6 +62,14 @@ CASES = [
     ("two in one block", [LEAF + INTERMEDIATE], 2, None, ["certificate 1 can't be decoded"]),
     ("one that is cut", [LEAF, INTERMEDIATE[:-1]], 2, None, ["certificate 2 can't be decoded"]),
     ("none", [], 4, [], ["there is no certificate in PEM"]),
+    ("its host", [LEAF, INTERMEDIATE], 0, [TRUSTED], [], "--host=desk.example", "--strict"),
+    ("another host", [LEAF, INTERMEDIATE], 1, ["refused 1 WrongHost calls=2"], [],
+     "--host=desk.test"),
+    ("no host", [LEAF, INTERMEDIATE], 4, [], ["--host: \"a b\""], "--host=a b"),
+    ("it ends soon", [LEAF, INTERMEDIATE], 7, [TRUSTED, "ends 0"],
+     ["certificate 2 (CN=Desk Inter", "is valid until 2036-01-01T00:00:00Z"],
+     "--warn-days=5000"),
+    ("it doesn't end soon", [LEAF, INTERMEDIATE], 0, [TRUSTED], [], "--warn-days=30"),
 ]
 
 
@@ -74,18 +82,18 @@ def main(words):
     with tempfile.TemporaryDirectory() as folder:
         roots, chain = (pathlib.Path(folder, name) for name in ("roots.pem", "chain.pem"))
         roots.write_text(ssl.DER_cert_to_PEM_cert(ROOT))
-        for name, certificates, status, output, errors in CASES:
-            if status in (0, 1) and not verifies:
+        for name, certificates, status, output, errors, *options in CASES:
+            if status in (0, 1, 7) and not verifies:
                 print(f"{name}: skipped, because `cryptography` isn't installed")
                 continue
             chain.write_text("".join(map(ssl.DER_cert_to_PEM_cert, certificates)))
-            asked = [sys.executable, HERE / "verify_pem.py", roots, chain, "--at", AT]
+            asked = [sys.executable, HERE / "verify_pem.py", roots, chain, "--at", AT, *options]
             said = subprocess.run([*asked, "--tool", words[0]], capture_output=True, text=True)
             # After a rejection come the lines of `explain`.
             told = said.stdout.splitlines()[: 1 if said.returncode == 1 else None]
             agrees = said.returncode == status and output in (None, told)
             agrees = agrees and all(part in said.stderr for part in errors)
-            agrees = agrees and (status == 0 or "trusted" not in said.stdout)
+            agrees = agrees and (status in (0, 7) or "trusted" not in said.stdout)
             passed += agrees
             faults += not agrees
             if not agrees:

@@ -32,8 +32,8 @@ class Book:
         self.ghosts = [call for call in self.calls if call.is_ghost]
 
     def find(self, name):
-        """The calls of this name, public ones if there are any, or what a type of this name
-        states."""
+        """Returns the calls with this name (the public ones, if there are any), or the ghost
+        members of the type with this name."""
         crate, _, bare = name.partition("::")
         calls = [call for call in self.calls if call.crate == crate and bare]
         name, calls = (bare, calls) if calls else (name, self.calls)
@@ -43,12 +43,12 @@ class Book:
         return [call for call in found if call.clauses] or found or stated
 
     def rests_on(self, calls):
-        """The definitions that contracts of calls rest on; no proof of a ghost member is read."""
+        """Returns the definitions that contracts of calls rest on, without proofs of members."""
         found = sources.reached(self.files, [key for call in calls for key in call.cites])
         return [one for _, one in sorted(found.items()) if one.sort != "proof"]
 
     def members_of(self, calls):
-        """The ghost members through which the contracts of calls see their arguments."""
+        """Returns the ghost members through which the contracts of calls see their arguments."""
         models = [member for member in self.ghosts if member.stated == "Model"]
         told = [member for source in self.code for member in source.declared]
         found = {call for call in calls if call.is_ghost}
@@ -67,7 +67,7 @@ class Book:
 
 
 def filled(line, indent=""):
-    """A paragraph, or an item of a list, in lines of at most 100 columns."""
+    """Returns a paragraph, or an item of a list, in lines of at most 100 columns."""
     how = {"break_long_words": False, "break_on_hyphens": False, "subsequent_indent": indent}
     return textwrap.fill(line, sources.WIDTH, **how)
 
@@ -77,7 +77,7 @@ def told_many(items, noun):
 
 
 def claim(book, words, names):
-    """A row of the table of claims, with the numbers of the calls that it names."""
+    """Returns a row of the table of claims, with the numbers of the calls that it names."""
     calls = [call for name in re.findall("`(.+?)`", names) for call in book.find(name)]
     kept = book.rests_on(calls)
     lines, files = sum(one.lines for one in kept), len({one.key[:2] for one in kept})
@@ -86,8 +86,8 @@ def claim(book, words, names):
 
 
 def file_row(file):
-    """The row of a file in the table of its crate, or None if a reader has nothing to read there:
-    the first sentence of the comment at its head, up to a colon if it is long."""
+    """Returns the row of a file in the table of its crate, or None if there is nothing to read. It
+    has the first sentence of the comment at the head, up to a colon if the sentence is long."""
     count = sum(one.sort != "proof" for one in file.definitions.values())
     head = itertools.takewhile(lambda line: line.startswith("--"), file.lines)
     text = " ".join(line[2:].strip() for line in head).replace("|", "\\|").replace("<", "\\<")
@@ -98,7 +98,7 @@ def file_row(file):
 
 
 def section(book, crate, own):
-    """The part of the page that is of a crate, given its files of definitions."""
+    """Returns the section of a crate, given its files of definitions."""
     rows = {file: row for file in own if (row := file_row(file))}
     stated = [call for call in book.ghosts if call.crate == crate]
     size = sum(len(call.text.splitlines()) for call in stated)
@@ -112,7 +112,7 @@ def section(book, crate, own):
 
 
 def proofs(book):
-    """The paragraph about proofs in `specs/`."""
+    """Returns the paragraph about proofs in `specs/`."""
     found = [one for file in book.files.values() for one in file.definitions.values()
              if one.sort == "proof"]
     direct = set().union(*(call.cites for call in book.ghosts))
@@ -120,9 +120,10 @@ def proofs(book):
     counted = sum(proof.key in direct for proof in found)
     serving = sum(proof.key in behind_them for proof in found) - counted
     told = (
-        f"There are {len(found)} such proofs, and you don't have to read them. Ghost members name "
-        f"{counted} of them, for example that an order is total, and can import only from `specs/` "
-        f"of their own crate. The other {serving} are used by these"
+        f"{len(found)} further proofs are in `specs/`, which no definition names, so you don't "
+        f"have to read them. Ghost members name {counted} of them, for example that an order is "
+        "total, because a ghost member can import only from `specs/` of its own crate; the trait "
+        f"states what such a proof shows. The other {serving} are used by these"
     )
     left = [proof for proof in found if proof.key not in behind_them]
     yield filled(told + (". These belong into `proofs/`:" if left else "."))
@@ -130,9 +131,9 @@ def proofs(book):
 
 
 def page(book):
-    """The page: its text and the claims as they are, the rest anew from the sources.
+    """Returns the page. Its text and its claims are kept, and the rest is written from the sources.
 
-    The files that only pass on or open others are no part of it.
+    Files that only re-export definitions or open them are left out.
     """
     crates = {}
     for crate in sources.closure(sources.dependencies()):
@@ -171,7 +172,7 @@ def told(book, names):
 
 
 def check(book):
-    """Whether an import names no definition, or the page is out of date."""
+    """Returns whether an import names no definition, or the page is out of date."""
     faults = [f"{it}: an import that names no definition"
               for it in sources.lost(book.files, book.code)]
     if not faults and PAGE.read_text() != page(book):

@@ -34,24 +34,24 @@ TYPES = {"u8": "uint8_t", "u32": "uint32_t", "u64": "uint64_t", "usize": "size_t
 
 
 def constant(name):
-    """Converts a name to that of a constant in C. In small letters it is that of a struct."""
+    """Converts a name to that of a constant in C. In lower case it is that of a struct."""
     return re.sub(r"(?<=[a-z0-9])(?=[A-Z])", "_", name).upper()
 
 
 def type_in_c(kind):
-    """The type in C of a number, of a struct, or of a pointer to one."""
+    """Returns the type in C for a number, a struct, or a pointer to one."""
     pointer, _, of = kind.strip().rpartition(" ")
     of = TYPES.get(of) or constant(of).lower()
     return {"": of, "*const": f"const {of} *", "*mut": f"{of} *", "&mut": f"{of} *"}[pointer]
 
 
 def text_of(path):
-    """The text of a file of the sources or of the Rust crate, without comments."""
+    """Returns the text of a file of the sources or of the Rust crate, without comments."""
     return re.sub(r"//.*", "", path.read_text())
 
 
 def parameters(text):
-    """The parameters in C of those of a call, each with its type."""
+    """Returns the parameters of a call in C, each with its type."""
     for name, kind in re.findall(r"(\w+): ([^,]+)", text):
         kind = kind.strip()
         if kind in ("&[u8]", "&mut [u8]"):
@@ -62,7 +62,7 @@ def parameters(text):
 
 
 def of_sources():
-    """The calls, the structs and the numbers of the sources, as the header has to have them."""
+    """Returns the calls, the structs and the numbers that the header must have."""
     text = "".join(text_of(path) for crate in ("cert_desk_c", "cert_desk_issuing_c")
                    for path in (CRATES / crate / "src").glob("*.rt"))
     call = r'pub extern "C" fn (\w+)\(([^)]*)\)(?: -> (\w+))?'
@@ -75,14 +75,14 @@ def of_sources():
     for prefix, (file, function) in NUMBERS.items():
         clause = rf"^{function} \(?\w+\.(\w+)[^=\n]*= (\d+)$"
         for name, number in re.findall(clause, (CRATES / file).read_text(), re.M):
-            # The header's name for a status whose own name says what it is to a program.
+            # The sources name this status after its meaning for a program, the header differently.
             name = "NO_ROOM" if (prefix, name) == ("WD_", "Device") else constant(name)
             numbers[("WD_" if prefix == "WD_RULE_" else prefix) + name] = int(number)
     return calls, structs, numbers
 
 
 def of_header():
-    """The calls, the structs and the numbers of the header."""
+    """Returns the calls, the structs and the numbers of the header."""
     text = re.sub(r"/\*.*?\*/", " ", (BINDINGS / "wurstdrape.h").read_text(), flags=re.S)
     text = " ".join(text.split())
 
@@ -99,7 +99,7 @@ def of_header():
 
 
 def of_rust():
-    """The types of each call that the Rust crate declares."""
+    """Returns the types of each call that the Rust crate declares."""
     text = text_of(BINDINGS / "rust/src/calls.rs")
     for name, inside, result in re.findall(r"fn (wd_\w+)\(([^)]*)\) -> (\w+);", text):
         kinds = re.findall(r"\w+: ([^,]+)", inside)
@@ -107,7 +107,7 @@ def of_rust():
 
 
 def numbers_in(path, head, row):
-    """The numbers of the enumerations of a file, by the names that C has for them."""
+    """Returns the numbers of the enumerations of a file, by their names in C."""
     text = (BINDINGS / path).read_text()
     for name, prefix in ENUMERATIONS.items():
         block = re.search(head.format(name), text)

@@ -381,9 +381,9 @@ def table(mutants):
 def page():
     """Returns the page: its text as it is, but for the counts, and its tables from the marks."""
     every, rows = read_all(), []
-    lines = ["", "The third column has the function and the clause that rejected the mutant. A",
-             "name without a clause is a law, or a function of which the checker reported no",
-             "clause."]
+    lines = ["", "The third column has the function and the clause at which the prover stopped. If "
+             "it has no clause, a",
+             "law rejected the mutant, or the checker didn't name the clause."]
     waiting = [it for it in every if it.rejected == UNTRIED]
     recorded = [it for it in every if it.rejected and it not in waiting]
     for layer, begin in LAYERS.items():
@@ -394,11 +394,11 @@ def page():
     vectors = sum(bool(it.vectors) for it in recorded)
     counts = "\n".join(["| Layer | Mutants | With a recorded result |", "|---|---|---|", *rows,
         f"| all | {len(every):,} | {len(recorded)} |", "",
-        f"Of the {len(recorded)} recorded ones, the prover rejected {len(recorded) - vectors}, and "
-        f"only test vectors detect the other {vectors}.\n\n"])
-    text = re.sub(r"^\| Layer .*?(?=^No result)", counts, PAGE.read_text(), 1, re.M | re.S)
-    lines += ["", "### To be tried", "", f"These {len(waiting)} mutants are new, or they or their "
-              "code have changed since they were tried:", "", *(f"- `{it.title}`" for it in waiting)
+        f"Of these {len(recorded)}, the prover rejected {len(recorded) - vectors}, and only test "
+        f"vectors detect the other {vectors}.\n\n"])
+    text = re.sub(r"^\| Layer .*?(?=^For the others)", counts, PAGE.read_text(), 1, re.M | re.S)
+    lines += ["", "### To be tried", "", f"These {len(waiting)} mutants were never tried, or "
+              "they or their code have changed since:", "", *(f"- `{it.title}`" for it in waiting)
               ] * bool(waiting)
     return "\n".join([text.partition(TABLES)[0] + TABLES, *lines[1:]]) + "\n"
 

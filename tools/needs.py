@@ -31,9 +31,12 @@ NEEDS = {
     "examples/sign_outside.sh": "openssl xxd",
     "examples/verify_pem.py": "cryptography",
     "tests/asn1/positions.py": "rt pyasn1_modules",
+    "tests/asn1/by_openssl.py": "openssl cryptography",
     "tests/differential/answers.py": "openssl cryptography",
     "tests/differential/described.py": "openssl cryptography pyasn1_modules "
                                        "/usr/share/ca-certificates/mozilla",
+    "tests/differential/files.py": "/usr/share/ca-certificates/mozilla",
+    "tests/differential/held.py": "openssl cryptography",
     "tests/differential/mutated.py": "/usr/share/ca-certificates/mozilla",
     "tests/rows/hostile.py": "/usr/bin/time",
     "tests/rows/memory.py": "gcc",

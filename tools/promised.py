@@ -18,15 +18,15 @@ import tempfile
 import sources
 
 FACADES = ("const_oid", "der_core", "der_types", "x509_cert", "cert_desk")
-# What types are declared by isn't promised, nor what is passed on to crates above, nor from where a
-# crate imports a name.
+# Neither the items by which types are declared are promised, nor items that are re-exported for
+# crates above, nor the path from which a crate imports a name.
 OTHERS = ("der_core::making", "der_core::describing", "der_core::oid",
           "der_types::der", "der_types::oid", "der_types::making")
 PATH = re.compile(r"\b(?:const_oid|(?:der|x509_cert|cert)_\w+|x509_cert)::(?:\w+::)*(?=\w)")
 
 
 class Facades:
-    """The items of all libraries, and where a user of the facades finds them (`Item.imports`)."""
+    """The items of all libraries, and the paths by which users import them (`Item.imports`)."""
 
     def __init__(self, top):
         files = [it for file in sources.sources(top / "crates") for it in (file, *file.inline)]
@@ -41,11 +41,11 @@ class Facades:
             self.give(impl)
 
     def file_of(self, crate, path):
-        """The file of a module."""
+        """Returns the file of a module."""
         return self.code.get((crate, "/".join(path or ["lib"]) + ".rt"))
 
     def names(self, crate, path):
-        """The names of a module that its users see."""
+        """Returns the names of a module that its users see."""
         file = self.file_of(crate, path)
         if file is None:
             return set()
@@ -55,15 +55,15 @@ class Facades:
         return found
 
     def starred(self, crate, path, inside):
-        """The modules whose names a module imports by `*`."""
+        """Returns the modules whose names a module imports by `*`."""
         for public, start, name, _ in self.file_of(crate, path).uses:
             place = self.at(crate, path, start) if name == "*" and (public or inside) else None
             if isinstance(place, tuple):
                 yield place
 
     def find(self, crate, path, word, inside):
-        """The item or the module that a name of a module stands for, as seen inside of its crate
-        or outside."""
+        """Returns the item or the module with a name in a module, as seen inside of its crate or
+        from outside."""
         file = self.file_of(crate, path)
         if file is None:
             return None
@@ -79,7 +79,7 @@ class Facades:
         return next(filter(None, found), None)
 
     def at(self, crate, path, words):
-        """The item or the module at a path, as a `use` line of a module writes it."""
+        """Returns the item or the module at a path that a `use` line of a module has."""
         head, *rest = words or ["self"]
         if head == "crate":
             place = (crate, ())
@@ -96,8 +96,8 @@ class Facades:
         return place
 
     def walk(self, crate, path, start=None):
-        """Notes the path by which a facade's users find each item of a module. The module may be
-        re-exported from a crate below; then the modules inside it are left out."""
+        """Records the path by which a facade's users import each item of a module. If the module
+        is re-exported from a crate below, the modules inside it are left out."""
         for name in self.names(crate, path):
             target, place = self.find(crate, path, name, False), (*(start or (crate, *path)), name)
             if isinstance(target, sources.Item):
@@ -106,20 +106,22 @@ class Facades:
                 self.walk(*target, None if target[0] == crate else place)
 
     def give(self, impl):
-        """Gives an impl to its type; where that is none of the repository, to its trait."""
+        """Adds an impl to its type or, if the repository doesn't have the type, to its trait. An
+        impl of a trait of the repository that no facade passes on isn't promised."""
         name = impl.source.name.removesuffix(".rt")
         path = () if name == "lib" else tuple(name.split("/"))
         item, trait = (self.find(impl.source.crate, path, (name or "").split("::")[-1], True)
                        for name in (impl.owner, impl.trait))
         if isinstance(item, sources.Item):
-            item.impls.append(impl)
+            if not isinstance(trait, sources.Item) or trait.imports:
+                item.impls.append(impl)
             item.methods += [call for call in impl.members if call.public and not impl.trait]
         elif isinstance(trait, sources.Item):
             trait.impls.append(impl)
 
 
 def clauses(path, call):
-    """The signature of a function, and each clause of its contract under its name."""
+    """Returns the signature of a function, and each clause of its contract by its name."""
     name, found = path, {}
     for line in filter(str.strip, sources.COMMENT.sub("", call.text).splitlines()):
         clause = sources.CLAUSE.match(line)
@@ -132,7 +134,7 @@ def clauses(path, call):
 
 
 def declaration(item):
-    """What a declaration says to users: of a struct no private fields, of a trait its head."""
+    """Returns the public part of a declaration: without private fields, and of a trait the head."""
     lines = [line for line in item.text.splitlines() if not line.strip().startswith("//")]
     if item.kind == "trait":
         return " ".join(lines).partition("{")[0]
@@ -142,7 +144,7 @@ def declaration(item):
 
 
 def of_item(path, item):
-    """What is promised of an item that is imported from this path."""
+    """Returns what is promised about an item that is imported from this path."""
     if item.call:
         return clauses(path, item.call)
     found = {path: item.name if item.is_macro else declaration(item)}
@@ -157,7 +159,7 @@ def of_item(path, item):
 
 
 def promised(top):
-    """Each part of what a repository promises, and what is said of it."""
+    """Returns each part of what a repository promises, with the text that is compared."""
     found = {}
     for item in Facades(top).items:
         for path in item.imports:

@@ -22,7 +22,8 @@ make prints the checksum of SUMS last. Publish it: SUMS has the checksum of ever
 releases of one commit have the same bytes.
 
 install verifies the checksums of a release first, and doesn't need the kit. Without --from it
-installs what was built in this repository; a program that isn't built is named and left out.
+installs the release that contains this script, or what was built in this repository; a program that
+isn't built is named and left out.
 
 unpack verifies the checksum of each file, the version of the kit, and the commit. If the sources of
 a crate differ from the release, it says so, and `rt` will prove that crate again. Results that
@@ -52,14 +53,18 @@ import sys
 import tempfile
 import time
 
+# A folder with bytecode would differ from SUMS.
+sys.dont_write_bytecode = True
+
 import sources
 
 LIBRARIES = "libraries.tar.zst"
-# Programs and archives, and where each lies in a release.
+# Programs and archives, with their paths in a release.
 PROGRAMS = {name: f"programs/{name}" for name in ("cert_desk_program", "cert_tool")}
 ARCHIVES = {name: f"archives/lib{name}.a" for name in ("cert_desk_c", "cert_desk_issuing_c")}
 PLACES = PROGRAMS | ARCHIVES
-# Files that are installed beside the programs, by their places in a release and under a prefix.
+COMPLETIONS = "share/bash-completion/completions"
+# Files that are installed with the programs, with their paths in a release and under a prefix.
 INSTALLED = {
     "programs/cert_desk_program": "bin/cert_desk",
     "programs/cert_tool": "bin/cert_tool",
@@ -69,10 +74,12 @@ INSTALLED = {
     "docs/man/cert_tool.1": "share/man/man1/cert_tool.1",
     "docs/man/cert_tool_answer.1": "share/man/man1/cert_tool_answer.1",
     "docs/man/cert_tool_verify_pem.1": "share/man/man1/cert_tool_verify_pem.1",
-    "docs/man/cert_tool.bash": "share/bash-completion/completions/cert_tool",
+    "docs/man/cert_tool.bash": f"{COMPLETIONS}/cert_tool",
     "LICENSE-APACHE": "share/doc/wurstdrape/LICENSE-APACHE",
     "LICENSE-MIT": "share/doc/wurstdrape/LICENSE-MIT",
 }
+# Scripts that install a release without a clone.
+INSTALLERS = "tools/release.py", "tools/sources.py"
 # A library repeats what is in the libraries below it, so zstd looks back this far.
 ZSTD = "zstd -q -3 --long=30 -T1"
 
@@ -121,7 +128,6 @@ def run(*words, folder, why, **how):
 
 def stamps(folder):
     """Returns the kit's stamp of each crate in a repository."""
-    sys.dont_write_bytecode = True
     rt = shutil.which("rt") or stop("command not found: rt (add the kit's bin/ to PATH)")
     path = pathlib.Path(rt).resolve().parent / "rtlib.py"
     loader = importlib.machinery.SourceFileLoader("rtlib", str(path))
@@ -314,7 +320,7 @@ def write(folder, clone, libraries):
             shutil.copy(file, folder / target)
             kind = "program" if name in PROGRAMS else "archive"
             found[name] = Crate(kind, made[name], sum_of(file))
-    for path in INSTALLED.keys() - PROGRAMS.values():
+    for path in INSTALLED.keys() - PROGRAMS.values() | set(INSTALLERS):
         (folder / path).parent.mkdir(parents=True, exist_ok=True)
         shutil.copy(clone / path, folder / path)
     commit = asked("git", "rev-parse", "HEAD", folder=clone)
@@ -361,20 +367,26 @@ def bindings_of(release):
     for path in sorted((release / "bindings").glob("*")):
         if path.suffix in places:
             yield path, f"{places[path.suffix]}/{path.name}"
+    for path in sorted((release / "bindings/rust").rglob("*")):
+        yield path, f"share/wurstdrape/{path.relative_to(release / 'bindings')}"
 
 
 def install(words):
     release = words.release or sources.TOP
-    if words.release:
+    is_release = words.release is not None or (release / "SUMS").is_file()
+    if is_release:
         read(release)
-    found = [(release / path, place) for path, place in INSTALLED.items()]
-    if not words.release:
-        built = {PROGRAMS[it]: sources.CRATES / it / "out" / it for it in PROGRAMS}
-        found = [(built.get(path, release / path), place) for path, place in INSTALLED.items()]
+    built = {PROGRAMS[it]: sources.CRATES / it / "out" / it for it in PROGRAMS}
+    found = [(release / path if is_release else built.get(path, release / path), place)
+             for path, place in INSTALLED.items()]
+    # bash looks for the completion of a command in the file of its name.
+    completion = release / "docs/man/cert_tool.bash"
+    names = "cert_tool_answer", "cert_tool_verify_pem"
+    found += [(completion, f"{COMPLETIONS}/{name}") for name in names]
     missing = [path for path, place in found if place == "bin/cert_tool" and not path.is_file()]
     if missing:
         stop(f"{missing[0]} isn't built: use --from RELEASE, or `./x test` (about 3 hours)")
-    for path, place in [*found, *(bindings_of(release) if words.release else [])]:
+    for path, place in [*found, *(bindings_of(release) if is_release else [])]:
         target = words.prefix / place
         if path.is_file():
             target.parent.mkdir(parents=True, exist_ok=True)
@@ -387,6 +399,9 @@ def install(words):
         text = path.read_text().replace("prefix=${pcfiledir}", "prefix=${pcfiledir}/../..")
         text = text.replace("libdir=${prefix}\n", "libdir=${prefix}/lib\n")
         path.write_text(text.replace("includedir=${prefix}\n", "includedir=${prefix}/include\n"))
+    programs = str(words.prefix.resolve() / "bin")
+    if programs not in os.environ.get("PATH", "").split(os.pathsep):
+        print(f"release: add {programs} to PATH", file=sys.stderr)
     return 0
 
 
@@ -438,7 +453,7 @@ def confirm(words):
         same = {name: made.get(name) == proved.crates[name] for name in wanted}
         if not ARCHIVES.keys().isdisjoint(wanted):
             texts = listing(new), (release / "SUMS").read_text()
-            beside = r"^.*  (?:bindings/|examples/|docs/|LICENSE-).*$"
+            beside = r"^.*  (?:bindings/|examples/|docs/|tools/|LICENSE-).*$"
             rows = [re.findall(beside, text, re.M) for text in texts]
             same["bindings, scripts, licences"] = rows[0] == rows[1]
     for name, is_same in same.items():

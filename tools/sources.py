@@ -24,28 +24,28 @@ def arguments(told):
 
 
 def cells(row):
-    """The cells of a row of a table in Markdown."""
+    """Returns the cells of a row of a table in Markdown."""
     return [cell.strip() for cell in re.split(r"(?<!\\)\|", row.strip())[1:-1]]
 
 
 def version(top=TOP):
-    """The number of the last version in a repository's CHANGELOG.md."""
+    """Returns the number of the last version in a repository's CHANGELOG.md."""
     return re.search(r"^## (\d\S*)", (top / "CHANGELOG.md").read_text(), re.M)[1]
 
 
 def rows(top=TOP):
-    """Each crate of a repository's crates.txt and its line, in the order of the file."""
+    """Returns each crate of a repository's crates.txt with its line, in the order of the file."""
     text = (top / "crates.txt").read_text()
     return {match[1]: match[0].rstrip() for match in re.finditer(r"^(\w+)[^#\n]*", text, re.M)}
 
 
 def dependencies(top=TOP):
-    """Each crate of a repository's crates.txt and the libraries that its line names."""
+    """Returns each crate of a repository's crates.txt with the libraries that its line names."""
     return {name: line.partition(":")[2].split() for name, line in rows(top).items()}
 
 
 def closure(names, crates=None):
-    """These crates and all below them that stand in crates.txt, the lowest first."""
+    """Returns these crates and their dependencies in crates.txt, the lowest first."""
     crates, order = dependencies() if crates is None else crates, {}
 
     def visit(name):
@@ -59,13 +59,13 @@ def closure(names, crates=None):
     return list(order)
 
 
-# What `use` lines import, of definitions and of code.
+# The names that `use` lines import, of definitions and of code.
 
 USED = re.compile(r"(pub )?use ((?:\w+(?:::|\.))*)(?:\{(.*)\}|(\w+|\*)(?: as (\w+))?);?$")
 
 
 def uses_in(line):
-    """The names of a `use` line: whether it is public, the path, the name and its alias."""
+    """Yields each name of a `use` line: whether it is public, the path, the name and its alias."""
     match = USED.search(line)
     path = re.split(r"::|\.", match[2])[:-1] if match else []
     for part in (match[3] or match[4]).split(",") if match else ():
@@ -76,7 +76,7 @@ def uses_in(line):
 
 
 class Imports(dict):
-    """The definition or the file that each imported name stands for, as a path from its crate."""
+    """Maps each imported name to its definition or its file, as a path from its crate."""
 
     def read(self, line):
         """Adds the names of a `use` line that imports definitions."""
@@ -86,7 +86,7 @@ class Imports(dict):
                 self[alias] = (path[1], *path[3:])
 
     def find(self, word):
-        """The path of a word: its first name stands for one, which the others go on."""
+        """Returns the path of a word: the path of its first name, followed by its other names."""
         head, *rest = word.split(".")
         return (*self[head], *rest) if head in self else None
 
@@ -108,9 +108,9 @@ Block = collections.namedtuple("Block", "opened parameters")
 
 
 class Definition:
-    """A definition of a file of `specs/`: its text, and what it cites.
+    """A definition in a file of `specs/`: its text, and the names that it cites.
 
-    `lines` counts its comment, too; `around` are the parameters of the modules around it.
+    `lines` includes the lines of its comment. `around` has the parameters of the enclosing modules.
     """
 
     def __init__(self, file, match, number, block, comment):
@@ -122,7 +122,7 @@ class Definition:
         self.cases, self.cites, self.serving = set(), set(), set()
 
     def add(self, line):
-        """Adds a line. Of a proof only the statement is text that a reader has to read."""
+        """Adds a line. The text of a proof is its statement only: readers skip the rest."""
         if self.sort == "proof" and (self.proof or line.startswith(f"{self.name} ") and self.text):
             self.proof += line + "\n"
         else:
@@ -131,9 +131,9 @@ class Definition:
 
     @property
     def clauses(self):
-        """The text in parts, each with the patterns before its `=`, where it has some.
+        """The text in parts, each with the patterns before its `=`, if it has any.
 
-        It is without what it names itself: fields, labels of a record's parts.
+        Names that the definition declares itself, such as fields, are left out.
         """
         text = LABEL.sub(" ", self.text)
         if self.sort in ("data", "record"):
@@ -143,9 +143,9 @@ class Definition:
 
 
 def unnested(lines):
-    """Each line with its number, moved out of the blocks around it: `mutual`, and modules.
-
-    With it comes what the blocks say of it: the word before `mutual`, the parameters of modules.
+    """Yields each line with its number, without the indentation of enclosing blocks (`mutual`,
+    modules), and with what these blocks say about it: the word before `mutual`, and the parameters
+    of modules.
     """
     blocks, numbered = [Block("", "")], iter(enumerate(lines, 1))
     for number, line in numbered:
@@ -163,7 +163,7 @@ def unnested(lines):
 
 
 class SpecFile:
-    """A file of `specs/`: its definitions, and the names that it imports and passes on."""
+    """A file of `specs/`: its definitions, and the names that it imports and re-exports."""
 
     def __init__(self, path):
         self.path, self.crate, self.name = path, path.parts[-3], path.stem
@@ -188,11 +188,11 @@ class SpecFile:
                 self.add_to(current, line)
 
     def find(self, name):
-        """The definition of this name; that of a case is its type."""
+        """Returns the definition of a name; for a case, that of its type."""
         return self.definitions.get(name) or self.cases.get(name)
 
     def add_to(self, definition, line):
-        """Adds a line, which may be a case of a type, to the definition that it is of, if any."""
+        """Adds a line, which may be a case of a type, to its definition, if it has one."""
         if definition:
             definition.add(line)
             case = CASE.match(line)
@@ -201,8 +201,8 @@ class SpecFile:
                 definition.cases.add(case[1])
 
     def begun(self, match, number, block, comment):
-        """The definition of which a line at the margin is one, unless it is an operator's clause,
-        which begins with an argument."""
+        """Returns the definition that begins with an unindented line, or None if the line is an
+        operator's clause, which begins with an argument."""
         name, is_opened = match["name"], match["opened"] or block.opened or match["sort"]
         if name in self.definitions or is_opened or re.match(r"(\{.*\} )?:", match["rest"]):
             new = Definition(self, match, number, block, comment)
@@ -217,7 +217,7 @@ DECLARED = re.compile(
     r"(?:pub(?:\(\w+\))? )?(?:unsafe )?(struct|enum|trait|type|const|static|macro_rules!) (\w+)"
 )
 CLAUSE = re.compile(r"^\s+(requires|ensures)\b\*? ?(\w*)", re.M)
-# What stands between the brackets of generic parameters, up to three levels deep.
+# The text between the brackets of generic parameters, which are nested at most three deep.
 GENERICS = r"(?:->|[^<>]|<(?:->|[^<>]|<(?:->|[^<>])*>)*>)*"
 
 
@@ -229,12 +229,12 @@ class Part:
 
     @property
     def opening(self):
-        """How many lines an impl, a trait or a module has up to its bracket."""
+        """The number of lines of an impl, a trait or a module up to its opening bracket."""
         return next(at for at, it in enumerate(self.lines, 1) if it.endswith(("{", "}", ";")))
 
     @property
     def header(self):
-        """What stands before the bracket, in one line."""
+        """The text before the opening bracket, as one line."""
         header = " ".join(line.strip() for line in self.lines[: self.opening])
         return re.sub(r"\s*\{\}?$", "", header)
 
@@ -245,7 +245,7 @@ class Part:
 
     @property
     def members(self):
-        """What stands between the brackets."""
+        """The parts between the brackets."""
         return parts_of(self.body, self.number + self.opening - 1)
 
     @property
@@ -262,7 +262,7 @@ class Part:
 
 
 def parts_of(lines, before=0):
-    """What stands at the margin of these lines, which stand after so many others."""
+    """Returns the parts that begin with an unindented line, given the number of lines before."""
     parts, above, part = [], [], None
     for number, line in enumerate(lines, before + 1):
         begins = line[:1].strip() and line[0] not in "{})]>" and not line.startswith("where")
@@ -279,7 +279,7 @@ def parts_of(lines, before=0):
 
 
 class Call:
-    """A function with a contract, or what a type states of itself (`ghost` members of an impl)."""
+    """A function with a contract, or a `ghost` member of an impl, which states a fact of a type."""
 
     def __init__(self, source, part, name, owner=None, stated=None, public=False):
         self.crate, self.path, self.name, self.line = source.crate, source.name, name, part.number
@@ -289,7 +289,7 @@ class Call:
         comment = (line for line in part.above if line.startswith("///"))
         self.doc = next(comment, "").removeprefix("///").removeprefix(" ")
         first = None if self.is_ghost else CLAUSE.search(self.text)
-        # The text of its clauses; of a ghost member all of it.
+        # The text of the clauses; for a ghost member, the whole text.
         self.contract = self.text[first.start() if first else 0 :] * bool(first or self.is_ghost)
         self.clauses = CLAUSE.findall(self.contract) if first else []
         self.title = f"{owner}::{name}" if owner else name
@@ -298,7 +298,7 @@ class Call:
 
 
 def members(source, part, owner, stated=None, public=False):
-    """The functions and the ghost members of an impl or a trait; `public` says that all are."""
+    """Returns the functions and ghost members of an impl or a trait; `public`: all are public."""
     for member in part.members:
         ghost = re.match(r"ghost \w+(?= ?[:=])", member.lines[0])
         match = FUNCTION.match(member.lines[0])
@@ -320,7 +320,7 @@ class Item:
 
 
 class Impl:
-    """An impl block: the type that it is of, the trait that it gives it, and its members."""
+    """An impl block: its type, its trait if it has one, and its members."""
 
     def __init__(self, source, part):
         self.source, header = source, re.sub(rf"^impl(<{GENERICS}>)?\s*", "", part.header)
@@ -334,8 +334,8 @@ class Impl:
 class Source:
     """A file of `src/`, or a module in braces: its items, impls, modules and `use` lines.
 
-    `calls` are the functions and the ghost members, in their order; `declared` the ghost members
-    that traits declare.
+    `calls` has the functions and the ghost members, in the order of the file, and `declared` the
+    ghost members that traits declare.
     """
 
     def __init__(self, crate, name, lines, path):
@@ -379,8 +379,8 @@ class Source:
 
 
 def sources(crates=CRATES):
-    """All files of code; a call is public where the root of its crate passes on it, or its type, in
-    a program where it says so, or where it is exported to C."""
+    """Returns all files of code. A call is public if the root of its crate re-exports it or its
+    type, if it is `pub` in a program, or if it is exported to C."""
     found = {}
     for path in sorted(crates.glob("*/src/**/*.rt")):
         crate, _, *name = path.relative_to(crates).parts
@@ -400,11 +400,11 @@ def sources(crates=CRATES):
     return list(found.values())
 
 
-# What the names in a text mean.
+# The meanings of the names in a text.
 
 
 def stands_at(files, path):
-    """The definition or the file at a path: a crate, then what it has or passes on, and so on."""
+    """Returns the definition or the file at a path, which begins with a crate."""
     crate, *rest = path
     here = files.get((crate, "Lib"))
     for at, name in enumerate(rest, 1):
@@ -419,7 +419,7 @@ def stands_at(files, path):
 
 
 def lost(files, code):
-    """Imports from the definitions of the repository that name none, each with its file."""
+    """Yields the imports that name no definition of the repository, each with its file."""
     crates = {crate for crate, _ in files}
     for source in (*files.values(), *code):
         for path in source.imports.values():
@@ -429,13 +429,13 @@ def lost(files, code):
 
 
 def words_of(text):
-    """The names in a text, and of operators that stand between blanks; comments have none."""
+    """Returns the names in a text, and the operators between blanks, except in comments."""
     text = COMMENT.sub("", text)
     return set(WORD.findall(text)) | {f"◌{sign}◌" for sign in SIGN.findall(text)}
 
 
 def target_of(files, imports, word, own=None):
-    """The definition that a word names, or one of whose cases it is."""
+    """Returns the definition that a word names, or whose case it names."""
     here = own and own.find(word.split(".")[0])
     path = imports.find(word)
     target = here or path and stands_at(files, path)
@@ -443,9 +443,8 @@ def target_of(files, imports, word, own=None):
 
 
 def cite(files, imports, text, own=None, cases=(), patterns=""):
-    """The definitions that a text names; a name of its own cases is that of no other type.
-
-    What stands in patterns and is no case is a variable.
+    """Returns the definitions that a text names. The names in `cases` are its own cases. A name in
+    `patterns` that isn't a case is a variable.
     """
     left = set(cases)
     for word in words_of(patterns) if patterns else ():
@@ -458,10 +457,10 @@ def cite(files, imports, text, own=None, cases=(), patterns=""):
 
 
 def read_all():
-    """The files of definitions, by crate and name, and of code, with what definitions and contracts
-    cite; the file `Lib` of a crate lists its others.
+    """Returns the files of definitions, by crate and name, and the files of code, with what
+    definitions and contracts cite. The file `Lib` of a crate lists its other files.
 
-    A proof that a definition names counts by its statement, which says all that is known of it.
+    If a definition names a proof, the statement of the proof counts.
     """
     files = map(SpecFile, sorted(CRATES.glob("*/specs/*.antt")))
     files, code = {(file.crate, file.name): file for file in files}, sources()
@@ -483,7 +482,7 @@ def read_all():
 
 
 def reached(files, keys, proofs=False):
-    """These definitions and all that they rest on; with what their proofs name, where told so."""
+    """Returns these definitions and all that they rest on, with those of their proofs if asked."""
     seen, todo = {}, list(keys)
     while todo:
         key = todo.pop()
