@@ -54,12 +54,12 @@
 extern "C" {
 #endif
 
-/* The statuses. 0, 1, 2 and 6 mean what the exit statuses of the programs mean; 3, 4 and 5 mean
-   more, or something else. */
+/* The statuses. They aren't the exit statuses of the programs: for example, 5 is a buffer that is
+   too small here, and an I/O error there. */
 enum {
     WD_DONE = 0,      /* success; of a chain: it is trusted */
     WD_REFUSED = 1,   /* a certificate of the chain breaks a rule, or the orders are rejected */
-    WD_FAULTY = 2,    /* the input isn't DER, or text, of the expected type */
+    WD_FAULTY = 2,    /* the input can't be decoded as a value, or a text, of the expected type */
     WD_EMPTY = 3,     /* the chain is empty, or there is no such extension or index */
     WD_ARGUMENTS = 4, /* an argument other than the input is wrong */
     WD_NO_ROOM = 5,   /* `out` is too small */
@@ -104,7 +104,8 @@ enum {
     WD_CHAIN_LENGTH_TOO_WIDE = 3,     /* its length has more than four bytes after the first */
     WD_CHAIN_LENGTH_NOT_SHORTEST = 4, /* its length isn't in the shortest form */
     WD_CHAIN_TOO_LARGE = 5,           /* it has more than `limit` bytes */
-    WD_CHAIN_MALFORMED = 6,           /* it isn't the DER of a certificate */
+        WD_CHAIN_MALFORMED = 6,           /* it isn't a certificate in DER, or has a value that isn't
+                                         supported, such as a date before 1970 */
     WD_CHAIN_TRUNCATED = 7            /* the chain ends inside a certificate */
 };
 

@@ -1,7 +1,7 @@
-/* Has the calls answer changed files, and prints a sum of all answers: mutated TOP COUNT
+/* Calls the functions with changed files, and prints a checksum of all results: mutated TOP COUNT
 
-   Changes and sum are those of rust/examples/mutated.rs, so that what is answered through the
-   wrappers in Rust can be compared: both print one line. */
+   The changes and the checksum are those of rust/examples/mutated.rs, which calls the functions
+   through the Rust crate. Both programs print one line, so their results can be compared. */
 #include <stdio.h>
 #include <stdlib.h>
 #include <string.h>
@@ -50,7 +50,7 @@ static void told(uint32_t status) {
     add(out, length);
 }
 
-/* the status, and the octets of each part */
+/* Adds the status and the bytes of each part to the checksum. */
 static wd_spans spans;
 static void told_spans(const data *of, uint32_t status) {
     const wd_span each[] = {spans.signed_part, spans.serial_number, spans.issuer, spans.subject,
@@ -60,7 +60,7 @@ static void told_spans(const data *of, uint32_t status) {
         add(of->octets + each[i].start, each[i].size);
 }
 
-/* the status, and content and marking of id-ce-extKeyUsage */
+/* Adds the status, and the content and the criticality of extKeyUsage. */
 static void told_purposes(const data *of) {
     static const uint8_t purposes[] = {0x55, 0x1d, 37};
     wd_span span;
@@ -73,7 +73,7 @@ static void told_purposes(const data *of) {
     add_number(critical);
 }
 
-/* up to three octets that are others, and of each eighth a front */
+/* Changes up to three bytes of a file, and cuts off the end of one file in eight. */
 static void change(data *to, const data *from) {
     *to = *from;
     for (uint64_t i = 0, count = 1 + next(3); i < count; i++) {
@@ -87,7 +87,7 @@ int main(int count, char **words) {
     static data server, root, chain, answers, list, request, it;
     static const uint8_t server_auth[] = {0x2b, 6, 1, 5, 5, 7, 3, 1};
     if (count != 3) {
-        fputs("mutated TOP COUNT\n", stderr);
+        fputs("usage: mutated TOP COUNT\n", stderr);
         return 2;
     }
     get(&server, words[1], "examples/server.der");
@@ -138,6 +138,6 @@ int main(int count, char **words) {
         add_number(place.number);
         done += status == WD_DONE;
     }
-    printf("%lu inputs, %lu of them right: %016llx\n", inputs, done, (unsigned long long)sum);
+    printf("%lu inputs, %lu of them valid: %016llx\n", inputs, done, (unsigned long long)sum);
     return 0;
 }

@@ -1,8 +1,8 @@
-/* Tests of the calls, over files of the repository: test TOP
+/* Tests the functions of wurstdrape.h with files of the repository: test TOP
 
-   What is wanted was told by OpenSSL, or stands in a standard. Each call that writes is given each
-   room from 0 octets to as many as it wants, and each request for memory is refused in turn, if the
-   program is linked with --wrap for malloc, realloc and free. */
+   The expected results are those of OpenSSL, or of a standard. Each function that writes to a
+   buffer is tried with every size of the buffer, from 0 to one byte more than it needs. If the
+   program is linked with --wrap for malloc, realloc and free, each allocation fails in turn. */
 #include <pthread.h>
 #include <stdio.h>
 #include <stdlib.h>
@@ -22,7 +22,7 @@ static void check(int holds, const char *what, int line) {
 #define CHECK(condition) check((condition) != 0, #condition, __LINE__)
 
 #ifdef WRAPPED
-/* Memory: how much of it is held, and the request that is refused (0: none). */
+/* The number of blocks in use, the number of allocations, and the one that fails (0: none). */
 static long held, requests, refused_request;
 void *__real_malloc(size_t);
 void *__real_realloc(void *, size_t);
@@ -73,7 +73,7 @@ static data server, root, chain, answers, list, request, orders;
 static const uint8_t server_auth[] = {0x2b, 6, 1, 5, 5, 7, 3, 1};
 static const uint64_t moment = 1780000000; /* 2026-05-28 */
 
-/* Each call that writes octets, over the files. */
+/* Each function that writes to a buffer, with a file as input. */
 typedef uint32_t writes(uint8_t *out, size_t out_len, size_t *length);
 #define OF(file) file.octets, file.length
 #define WRITES(name, ...)                                               \
@@ -105,7 +105,7 @@ static const uint8_t signature[] = "signature";
 WRITES(signed_part, OF(orders), 2, ecdsa, sizeof ecdsa)
 WRITES(issue, OF(orders), 2, ecdsa, sizeof ecdsa, signature, 9)
 
-/* Each call that tells a value. */
+/* Each function that returns a value. */
 typedef uint32_t tells(void);
 static uint32_t is_certificate(void) {
     wd_fault fault;
@@ -170,15 +170,15 @@ static int is_all(const uint8_t *octets, size_t length, uint8_t octet) {
     return 1;
 }
 
-/* In each room that is too small nothing is written, and the length is told; in the room that fits
-   the text stands, and nothing behind it is written. */
+/* If the buffer is too small, nothing is written to it, and the size that is needed is returned. If
+   it is large enough, it has the result, and nothing is written after it. */
 static void rooms(writes *call) {
     static uint8_t whole[65536];
     size_t wanted, length;
     CHECK(call(whole, sizeof whole, &wanted) == WD_DONE);
     CHECK(wanted > 0 && wanted < sizeof whole);
     for (size_t size = 0; size <= wanted + 1; size++) {
-        /* an end that valgrind and the sanitizers watch */
+        /* valgrind and the sanitizers report a write after the end of this block */
         uint8_t *room = malloc(size + 1);
         memset(room, 0xa5, size + 1);
         uint32_t status = call(room, size, &length);
@@ -193,8 +193,8 @@ static void rooms(writes *call) {
     }
 }
 
-/* With each request for memory refused in turn, nothing but out of memory is answered, and nothing
-   is written, or the same octets, where they are had without; and nothing is kept. */
+/* Each allocation fails in turn. The call then returns WD_MEMORY and writes nothing, or it does
+   without this memory and its result is the same. It frees everything in both cases. */
 static void allocations(writes *call) {
 #ifdef WRAPPED
     static uint8_t out[65536], whole[65536];
@@ -219,8 +219,8 @@ static void allocations(writes *call) {
 #endif
 }
 
-/* With each request for memory refused in turn, out of memory is told, or what is told with ample
-   memory, if what was refused was asked for again; and nothing is kept. */
+/* Each allocation fails in turn. The call then returns WD_MEMORY, or it tried the allocation again
+   and succeeds. It frees everything in both cases. */
 static void tellings(tells *call) {
     CHECK(call() == WD_DONE);
 #ifdef WRAPPED
@@ -253,7 +253,7 @@ static void verdicts(void) {
     CHECK(judge(&answers, &chain, 4102444800, &told) == WD_REFUSED);
     CHECK(told.number == WD_EXPIRED);
 
-    /* without the answer about the first certificate, and without that about the second */
+    /* without the answer for the first certificate, and without the one for the second */
     static data some;
     const uint8_t *second = (const uint8_t *)memchr(answers.octets, '\n', answers.length) + 1;
     some.length = answers.length - (size_t)(second - answers.octets);
@@ -291,7 +291,7 @@ static void verdicts(void) {
         refused_request = n;
         uint32_t status = judge(&answers, &chain, moment, &told);
         refused_request = 0;
-        /* a chain may be judged without some of its requests */
+        /* some allocations can fail without an effect on the verdict */
         CHECK((status == WD_MEMORY || status == WD_DONE) && held == before);
     }
 #endif
@@ -312,7 +312,7 @@ static void parts(void) {
     static const char desk[] = "CN=Desk Intermediate,O=Desk Example,C=US";
     CHECK(issuer(out, sizeof out, &length) == WD_DONE);
     CHECK(length == strlen(desk) && memcmp(out, desk, length) == 0);
-    /* where `openssl asn1parse` tells each */
+    /* the positions that `openssl asn1parse` prints */
     CHECK(wd_parts(OF(server), &spans) == WD_DONE);
     CHECK(spans.signed_part.start == 4 && spans.signed_part.size == 421);
     CHECK(spans.serial_number.start == 15 && spans.serial_number.size == 20);
@@ -354,8 +354,8 @@ static void parts(void) {
     CHECK(wd_show_certificate(OF(list), out, sizeof out, &length) == WD_FAULTY && length == 0);
 }
 
-/* The certificate at each place has its signed part and the signature given, and nothing is said of
-   a place behind the last one. */
+/* The certificate at each index has its TBSCertificate and the given signature. An index after the
+   last one returns WD_EMPTY. */
 static void issued(void) {
     static uint8_t part[4096], out[4096];
     size_t part_size, size;
@@ -385,13 +385,13 @@ static uint32_t audit_of(const data *of, uint64_t at, wd_reason *told) {
                     sizeof server_auth, told);
 }
 
-/* What the chain of orders comes to, and why there is none: nothing is signed yet. */
+/* Whether the chain of orders will be trusted, or why it will not: nothing is signed. */
 static void audited(void) {
     wd_reason told;
     CHECK(audit_of(&orders, moment, &told) == WD_DONE);
     CHECK(audit_of(&orders, 1, &told) == WD_REFUSED);
     CHECK(told.place == 0 && told.number == WD_NOT_YET_VALID);
-    /* 2027-12-28: the last certificate alone has expired */
+    /* 2027-12-28: only the last certificate has expired */
     CHECK(audit_of(&orders, 1830000000, &told) == WD_REFUSED);
     CHECK(told.place == 2 && told.number == WD_EXPIRED);
     static const uint8_t email[] = {0x2b, 6, 1, 5, 5, 7, 3, 4};
@@ -402,7 +402,7 @@ static void audited(void) {
     static data other;
     CHECK(audit_of(&other, moment, &told) == WD_REFUSED);
     CHECK(told.number == WD_ORDER_NO_ORDERS);
-    /* a month that is none, in the first of the last order's dates */
+    /* a month 13 in the first date of the last order */
     other = orders;
     char *last = strstr((char *)other.octets, "CN=desk.example");
     memcpy(strstr(last, "2026-01"), "2026-13", 7);
@@ -444,7 +444,7 @@ static void threads(void) {
 
 int main(int count, char **words) {
     if (count != 2) {
-        fputs("test TOP\n", stderr);
+        fputs("usage: test TOP\n", stderr);
         return 2;
     }
     top = words[1];

@@ -12,4 +12,4 @@ import wurstdrape
 root, chain = (pathlib.Path(name).read_bytes() for name in sys.argv[1:3])
 print(wurstdrape.describe(root)["subject"]["text"])
 verdict = wurstdrape.verify(root, chain, at=int(sys.argv[3]))
-print("trusted" if verdict.trusted else f"refused: {verdict.rule.name} at {verdict.place}")
+print("trusted" if verdict.trusted else f"not trusted: {verdict}")

@@ -1,5 +1,5 @@
-//! Has the calls answer changed files, and prints a sum of all answers: changes and sum are those
-//! of bindings/c/mutated.c.
+//! Calls the functions with changed files, and prints a checksum of all results. The changes and
+//! the checksum are those of bindings/c/mutated.c.
 //!
 //!     cargo run --release --example mutated COUNT
 
@@ -19,7 +19,7 @@ impl Changes {
         (self.0 % below as u64) as usize
     }
 
-    /// Up to three octets that are others, and of each eighth a front.
+    /// Changes up to three bytes of a file, and cuts off the end of one file in eight.
     fn change(&mut self, octets: &[u8]) -> Vec<u8> {
         let mut octets = octets.to_vec();
         for _ in 0..1 + self.next(3) {
@@ -47,7 +47,7 @@ impl Sum {
         self.add(&number.to_le_bytes());
     }
 
-    /// The status of what a call wrote, and what it wrote.
+    /// Adds the status of a call, and what it wrote.
     fn add_told<T: AsRef<[u8]>>(&mut self, told: Result<T>) {
         match told {
             Ok(octets) => {
@@ -60,7 +60,7 @@ impl Sum {
 }
 
 impl Sum {
-    /// The status, and content and marking of id-ce-extKeyUsage.
+    /// Adds the status, and the content and the criticality of extKeyUsage.
     fn add_purposes(&mut self, der: &[u8]) {
         match wurstdrape::extension(der, &[0x55, 0x1d, 37]) {
             Ok(Some(Extension { content, critical })) => {
@@ -84,7 +84,7 @@ fn status_of(error: Error) -> u64 {
     }
 }
 
-/// The octets of each part, one behind the other.
+/// Returns the bytes of all parts, one after another.
 fn octets_of(der: &[u8], parts: Parts) -> Vec<u8> {
     let Parts {
         signed_part,
@@ -98,7 +98,7 @@ fn octets_of(der: &[u8], parts: Parts) -> Vec<u8> {
         .concat()
 }
 
-/// Status, kind and octet of a fault, place, offset and number of a verdict.
+/// A status; the kind and the byte of an error; the index, the offset and the number of a verdict.
 type Told = [u64; 6];
 
 fn fault_of(der: &[u8], kind: Kind) -> Told {
@@ -173,5 +173,5 @@ fn main() {
         }
         done += usize::from(told[0] == 0);
     }
-    println!("{count} inputs, {done} of them right: {:016x}", sum.0);
+    println!("{count} inputs, {done} of them valid: {:016x}", sum.0);
 }

@@ -1,9 +1,11 @@
 //! Decodes, prints and describes X.509 certificates (RFC 5280), CRLs and CSRs, and validates and
 //! issues certificate chains.
 //!
-//! Each function calls one function of `wurstdrape.h`, which is formally verified. The wrappers of
-//! this crate are only tested. docs/FROM_OTHERS.md of the repository says what is proved about each
-//! function. Bytes are DER, except for answers, orders files, texts and the content bytes of OIDs.
+//! Each function calls one function of `wurstdrape.h`, whose contract is proved. The text that
+//! `describe` returns is only tested, and so are the wrappers of this crate. docs/FROM_OTHERS.md of
+//! the repository says what is proved about each function. Bytes are DER, except for answers, orders
+//! files, texts and the content bytes of OIDs. The glossary in docs/TRUST.md explains the words of
+//! the names, such as `Refused` and `place`.
 #![deny(missing_docs, unsafe_op_in_unsafe_fn)]
 
 mod calls;
@@ -45,7 +47,7 @@ pub struct Fault {
 pub enum Error {
     /// The orders are rejected.
     Refused,
-    /// The input isn't DER, or text, of the expected type.
+    /// The input can't be decoded as a value, or a text, of the expected type.
     Faulty,
     /// The chain is empty, or has no certificate at the index.
     Empty,
@@ -59,10 +61,12 @@ pub enum Error {
 impl fmt::Display for Error {
     fn fmt(&self, f: &mut fmt::Formatter<'_>) -> fmt::Result {
         f.write_str(match self {
-            Error::Refused => "the orders are refused",
-            Error::Faulty => "the octets aren't what they should be",
-            Error::Empty => "the chain has no such certificate",
-            Error::Arguments => "anchors, answers, orders, the limit or an identifier are faulty",
+            Error::Refused => "the orders are rejected",
+            Error::Faulty => "the input can't be decoded",
+            Error::Empty => "the chain is empty, or has no certificate at this index",
+            Error::Arguments => {
+                "the anchors, the answers, the orders, the limit, the algorithm or an OID is wrong"
+            }
             Error::Memory => "out of memory",
         })
     }

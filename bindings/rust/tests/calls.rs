@@ -24,7 +24,7 @@ fn data(name: &str) -> Vec<u8> {
     read(&format!("crates/cert_tool/data/{name}"))
 }
 
-/// The root, the chain below it, and the answers to its questions.
+/// Returns the root, the chain below it, and the answers to its questions.
 fn files_of_chain() -> (Vec<u8>, Vec<u8>, Vec<u8>) {
     let answers = data("answers.txt");
     (read("examples/root.der"), read("examples/chain.der"), answers)
@@ -47,7 +47,7 @@ fn parts_are_those_that_openssl_tells() {
         wurstdrape::issuer(&der).unwrap(),
         "CN=Desk Intermediate,O=Desk Example,C=US"
     );
-    // where `openssl asn1parse` tells each
+    // the positions that `openssl asn1parse` prints
     let parts = Parts {
         signed_part: 4..425,
         serial_number: 15..35,
@@ -127,7 +127,7 @@ fn a_chain_is_trusted_by_its_answers() {
         Ok(Verdict::Trusted)
     );
 
-    // without the answer about the first certificate
+    // without the answer for the first certificate
     let second = questions.find('\n').unwrap() + 1;
     assert_eq!(
         wurstdrape::verify(&answers[second..], &chain, &terms(&root)),

@@ -6,10 +6,12 @@ issues certificate chains.
     wurstdrape.describe(der)                        # a dict
     wurstdrape.verify(roots, [ca, server]).trusted  # with `cryptography` as verifier
 
-The functions call those of `wurstdrape.h`, which are formally verified; this module is only tested.
-docs/FROM_OTHERS.md of the repository says what is proved about each function. Bytes are DER, except
-for answers, orders files, texts and the content bytes of OIDs. Input that can't be decoded raises
-`Malformed`, other errors raise `Error`, and `MemoryError` is raised if memory runs out.
+Each function calls functions of `wurstdrape.h`, whose contracts are proved. The texts that
+`describe` and `describe_text` return are only tested, and so is this module. docs/FROM_OTHERS.md of
+the repository says what is proved about each function, and the glossary in docs/TRUST.md explains
+the words of the names, such as `REFUSED` and `place`. Bytes are DER, except for answers, orders
+files, texts and the content bytes of OIDs. Input that can't be decoded raises `Malformed`, other
+errors raise `Error`, and `MemoryError` is raised if memory runs out.
 """
 
 from __future__ import annotations
@@ -154,8 +156,10 @@ class Malformed(Error):
     """The input can't be decoded. Contains the first error, if it is known."""
 
     def __init__(self, what: str, fault: Fault | None = None):
-        where = "" if fault is None else f": {fault.kind.name} at octet {fault.octet}"
-        super().__init__(Status.FAULTY, f"no {what}{where}")
+        where = "" if fault is None else f": {fault.kind.name}"
+        if fault is not None and fault.octet is not None:
+            where += f" at byte {fault.octet}"
+        super().__init__(Status.FAULTY, f"not {what}{where}")
         self.fault = fault
 
 
@@ -303,16 +307,25 @@ def _run(call, *values) -> Status:
     return call(*arguments)
 
 
+_NOUNS = {Kind.CERTIFICATE: "a certificate", Kind.LIST: "a CRL", Kind.REQUEST: "a CSR"}
+_REASONS = {
+    Status.REFUSED: "the orders are rejected",
+    Status.EMPTY: "the chain is empty, or has no certificate at this index",
+    Status.ARGUMENTS: "the anchors, the answers, the orders, the limit, the algorithm or an OID is "
+    "wrong",
+}
+
+
 def _raise_unless_done(status: Status, what: str | Kind, octets: Octets = b"") -> None:
-    """Raises the error for a status other than DONE. `what` is the kind that was expected."""
+    """Raises the error for a status other than DONE. `what` is what was expected."""
     if status is Status.FAULTY and isinstance(what, Kind):
-        raise Malformed(what.value, fault_of(octets, what))
+        raise Malformed(_NOUNS[what], fault_of(octets, what))
     if status is Status.FAULTY:
         raise Malformed(what)
     if status is Status.MEMORY:
         raise MemoryError
     if status is not Status.DONE:
-        raise Error(status, status.name)
+        raise Error(status, _REASONS[status])
 
 
 def _written(what: str | Kind, call, *values) -> bytes:
@@ -415,23 +428,23 @@ def extension(der: Octets, identifier: str) -> tuple[memoryview, bool] | None:
 
 def name_text(der: Octets) -> str:
     """Returns the text (RFC 4514) of a name that is given in DER."""
-    return _written("name", _library.wd_name_text, der).decode()
+    return _written("a name", _library.wd_name_text, der).decode()
 
 
 def name_of_text(text: str) -> bytes:
     """Returns the DER of a name that is given as text (RFC 4514)."""
-    return _written("text of a name", _library.wd_name_of_text, text)
+    return _written("the text of a name", _library.wd_name_of_text, text)
 
 
 def identifier_text(octets: Octets) -> str:
     """Returns the dotted text of an OID that is given by its content bytes (X.690 8.19)."""
-    return _written("identifier", _library.wd_identifier_text, octets).decode()
+    return _written("the content of an OID", _library.wd_identifier_text, octets).decode()
 
 
 @functools.lru_cache(maxsize=64)
 def identifier_of_text(text: str) -> bytes:
     """Returns the content bytes of an OID that is given as dotted text."""
-    return _written("dotted text of an identifier", _library.wd_identifier_of_text, text)
+    return _written("the text of an OID", _library.wd_identifier_of_text, text)
 
 
 def _joined(octets: Several) -> bytes:
@@ -453,7 +466,7 @@ def questions(anchors: Several, chain: Several, limit: int = LIMIT) -> list[byte
     The first certificate of the chain is the one that a trust anchor issued. Trust anchors are
     certificates, or others of RFC 5914."""
     lent = _joined(anchors), _joined(chain), limit
-    return _written("chain", _library.wd_questions, *lent).splitlines(keepends=True)
+    return _written("a chain", _library.wd_questions, *lent).splitlines(keepends=True)
 
 
 def judge(
@@ -478,7 +491,7 @@ def judge(
     if status is Status.FAULTY:
         return Verdict(status, told.place, None, told.offset, ChainFault(told.number))
     if status is not Status.EMPTY:
-        _raise_unless_done(status, "chain")
+        _raise_unless_done(status, "a chain")
     return Verdict(status)
 
 
@@ -520,7 +533,7 @@ def signed_part(orders: str, place: int, algorithm: Octets) -> bytes:
     DER): those of the root with its own key, and all others with the key of the order before.
     Raises `Error` if the orders are malformed or rejected, if the chain has no certificate at this
     index, or if the algorithm is malformed."""
-    return _written("chain", _issuing().wd_signed_part, orders, place, algorithm)
+    return _written("a chain", _issuing().wd_signed_part, orders, place, algorithm)
 
 
 def issued(orders: str, place: int, algorithm: Octets, signature: Octets) -> bytes:
@@ -529,7 +542,7 @@ def issued(orders: str, place: int, algorithm: Octets, signature: Octets) -> byt
 
     The signature isn't verified: use `verify` on the whole chain, with its root as trust
     anchor."""
-    return _written("chain", _issuing().wd_issue, orders, place, algorithm, signature)
+    return _written("a chain", _issuing().wd_issue, orders, place, algorithm, signature)
 
 
 def issue(
@@ -567,7 +580,7 @@ def audit(
     lent = orders, algorithm, _seconds(at), identifier_of_text(purpose)
     status = _run(_issuing().wd_audit, *lent, told)
     if status is not Status.REFUSED:
-        _raise_unless_done(status, "chain")
+        _raise_unless_done(status, "a chain")
         return Audit(status)
     if told.number in OrderFault.__members__.values():
         return Audit(status, told.place, fault=OrderFault(told.number))
