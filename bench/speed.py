@@ -329,13 +329,15 @@ def page(bench):
 This page compares how many instructions Wurstdrape and other software execute for the same task. It
 has no seconds, because these depend on the machine.
 
-- **Decoding** a root certificate, with the extensions that the rules use, takes {whole} fewer
-  instructions than with mbedTLS, which decodes all extensions. Without the extensions it takes
+These figures are those of [commit {commit}](#how-this-was-measured), and not of later changes:
+
+- **Decoding** a root certificate, with the extensions that the rules use, took {whole} fewer
+  instructions than with mbedTLS, which decodes all extensions. Without the extensions it took
   {alone} fewer, but then the two do different work.
-- **Validating** a chain of four certificates takes {chain} fewer instructions than with mbedTLS.
+- **Validating** a chain of four certificates took {chain} fewer instructions than with mbedTLS.
   Neither side verifies signatures or computes digests.
-- **Printing** a root takes {shown} fewer instructions than with OpenSSL.
-- **Missed targets**: {', '.join(missed) or 'none'}.
+- **Printing** a root took {shown} fewer instructions than with OpenSSL.
+- **Missed targets** (`**no**` in the tables): {', '.join(missed) or 'none'}.
 
 A figure of a root is the mean of the roots in Debian's `ca-certificates`. A ratio is the
 instructions of Wurstdrape, divided by those on the right: below 1, Wurstdrape takes fewer. An empty

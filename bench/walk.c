@@ -1,6 +1,6 @@
-// Walks all headers of a file of joined certificates, so many times, with the checks of DER: tags
-// and lengths in their shortest form, no indefinite length, no octet past the end. A refusal names
-// its kind.
+// Checks all headers of a file of concatenated certificates repeatedly: tags and lengths are in
+// their shortest form, no length is indefinite, and no value ends after the value that contains it.
+// It names the kind of the first error.
 #include <stddef.h>
 #include <stdint.h>
 #include <stdio.h>
@@ -13,7 +13,7 @@ enum fault {
 struct reader { const uint8_t *bytes; size_t position, end; };
 struct header { uint8_t first; uint32_t number; uint32_t length; };
 
-// the universal tags that are read, a bit for the octet of each
+// the universal tags that are accepted: a bit for each first byte
 static const uint64_t universal_read =
     1ull << 1 | 1ull << 2 | 1ull << 3 | 1ull << 4 | 1ull << 5 | 1ull << 6 | 1ull << 9 |
     1ull << 10 | 1ull << 12 | 1ull << 13 | 1ull << 18 | 1ull << 19 | 1ull << 20 | 1ull << 21 |

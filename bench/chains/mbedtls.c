@@ -1,5 +1,5 @@
-// Judges a chain with mbedTLS, so many times. The digest and the signature are taken out: both
-// calls answer at once that all is well.
+// Validates a chain with mbedTLS repeatedly. Two functions of mbedTLS are replaced: no digest is
+// computed, and every signature is accepted.
 #include <mbedtls/md.h>
 #include <mbedtls/pk.h>
 #include <mbedtls/x509_crt.h>

@@ -1,4 +1,4 @@
-// Reads each certificate of a file of joined certificates with mbedTLS, so many times.
+// Decodes each certificate of a file of concatenated certificates with mbedTLS repeatedly.
 #include <mbedtls/x509_crt.h>
 #include <stdio.h>
 #include <stdlib.h>
@@ -20,7 +20,7 @@ int main(int argc, char **argv)
     long read = 0;
     for (int round = atoi(argv[2]); round > 0; round--) {
         for (size_t at = 0; at + 4 <= size; read++) {
-            // every root has a length of two octets
+            // the length of every root is encoded in two bytes after the first
             size_t length = 4 + octets[at + 2] * 256 + octets[at + 3];
             mbedtls_x509_crt certificate;
             mbedtls_x509_crt_init(&certificate);

@@ -1,5 +1,5 @@
-/* Reads each certificate of a file of joined certificates with OpenSSL, so many times, and prints
-   what `openssl x509 -noout -serial -issuer -dates -subject -nameopt RFC2253` prints, with the
+/* Decodes each certificate of a file of concatenated certificates with OpenSSL, and prints it, as
+   `openssl x509 -noout -serial -issuer -dates -subject -nameopt RFC2253` prints, with the
    identifiers of its extensions. `count` prints how many there are. */
 #include <openssl/bio.h>
 #include <openssl/x509.h>
