@@ -61,6 +61,12 @@ EXPECTED = {
     "status_4": ("ocsp-response", "rejected: wrong value of ENUMERATED, at octet 2"),
     "signed": ("message", f"signed V1, {BY_NAME}, {DATA}"),
     "signed_key": ("message", f"signed V3, a key, 4 attributes, {DATA}"),
+    # SignedAttributes has at least one member (RFC 5652 5.3).
+    "signed_empty": (
+        "message",
+        "rejected: CONTEXT-SPECIFIC [0] (constructed) is not in the form that DER allows, at octet "
+        "PLACE",
+    ),
     "enveloped": ("message", "content 1.2.840.113549.1.7.3, same bytes"),
     "encrypted": ("message", "encrypted, inside same bytes, same bytes"),
     "digested": ("message", "digested, inside same bytes, same bytes"),
@@ -114,6 +120,9 @@ def make(folder):
     signer = ["-in", "text", "-signer", "a.pem", "-inkey", "a.key", "-binary", "-outform", "DER"]
     openssl("cms", "-sign", *signer, "-certfile", "ca.pem", "-nodetach", "-out", "signed")
     openssl("cms", "-sign", *signer, "-keyid", "-nocerts", "-out", "signed_key")
+    empty, place = without_attributes((folder / "signed_key").read_bytes())
+    (folder / "signed_empty").write_bytes(empty)
+    (folder / "place").write_text(str(place))
     der = ["-in", "text", "-binary", "-outform", "DER", "-out"]
     openssl("cms", "-encrypt", "-aes-128-cbc", *der, "enveloped", "a.pem")
     openssl("cms", "-EncryptedData_encrypt", "-aes-128-cbc", *CIPHER, *der, "encrypted")
@@ -129,6 +138,26 @@ def make(folder):
             "-signer", "tsa.pem", "-inkey", "tsa.key", "-out", "timestamp")
 
 
+def without_attributes(octets):
+    """Returns a signed message with an empty SET of signed attributes, and the position of the SET
+    in the SignedData."""
+    message, = mutations.parsed(octets)
+    data = message.children[1].children[0]
+    signer = data.children[-1].children[0]
+    attributes = next(it for it in signer.children if it.tag == b"\xa0" and it.children[1:])
+    attributes.children = []
+    empty, inside = message.encoded(), data.encoded()
+    attributes.tag = b"\xa1"
+    others = zip(inside, data.encoded())
+    return empty, next(place for place, (one, other) in enumerate(others) if one != other)
+
+
+def expected(folder):
+    """Returns the kind and the expected line of each message, by its name."""
+    place = (folder / "place").read_text()
+    return {name: (kind, line.replace("PLACE", place)) for name, (kind, line) in EXPECTED.items()}
+
+
 def printed(program, cases):
     """What the program prints of each kind and message."""
     asked = "".join(f"{kind} {octets.hex()}\n" for kind, octets in cases)
@@ -138,13 +167,12 @@ def printed(program, cases):
 
 def compare_expected(folder, program):
     """Compares what is printed of the messages with what is expected."""
-    cases = [(kind, (folder / name).read_bytes()) for name, (kind, _) in EXPECTED.items()]
-    faults = 0
-    for name, found in zip(EXPECTED, printed(program, cases), strict=True):
-        expected = EXPECTED[name][1]
-        if found != expected:
+    rows, faults = expected(folder), 0
+    cases = [(kind, (folder / name).read_bytes()) for name, (kind, _) in rows.items()]
+    for (name, (_, line)), found in zip(rows.items(), printed(program, cases), strict=True):
+        if found != line:
             faults += 1
-            print(f"{name}: expected {expected}\n    found {found}")
+            print(f"{name}: expected {line}\n    found {found}")
     print(f"{len(EXPECTED)} messages, {faults} faults")
     return faults
 
@@ -229,10 +257,11 @@ def main(words):
         folder = pathlib.Path(place)
         make(folder)
         if words == ["--write"]:
-            rows = [f"{kind} {(folder / name).read_bytes().hex()}\n"
-                    for name, (kind, _) in EXPECTED.items()]
-            (CRATE / "stdin").write_text("".join(rows))
-            (CRATE / "stdout").write_text("".join(f"{line}\n" for _, line in EXPECTED.values()))
+            rows = expected(folder)
+            (CRATE / "stdin").write_text("".join(
+                f"{kind} {(folder / name).read_bytes().hex()}\n"
+                for name, (kind, _) in rows.items()))
+            (CRATE / "stdout").write_text("".join(f"{line}\n" for _, line in rows.values()))
             return 0
         if words[0] == "--many":
             return bool(compare_many(folder, int(words[1]), words[2:]))

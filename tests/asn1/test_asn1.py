@@ -23,10 +23,11 @@ HERE = pathlib.Path(__file__).resolve().parent
 sys.path.insert(0, str(HERE.parents[1] / "tools"))
 
 from asn1_tool.command import main
+from asn1_tool.parser import parsed
 
 WRITTEN = HERE / "written.txt"
 MODULES = HERE / "modules"
-CMS = ["CryptographicMessageSyntax2004", "--loose"]
+CMS = ["CryptographicMessageSyntax2004"]
 for name in ("AttributeCertificateV1", "AttributeCertificateV2", "ExtendedCertificate"):
     CMS += ["--read", f"{name}=SequenceOwned"]
 SIGNED = ["ContentInfo", "SignedData", "DigestedData", "EncryptedData", "MessageDigest",
@@ -36,9 +37,9 @@ CRATES = {
     "pki_ocsp": ["OCSP-2013-88"],
     "ocsp_2008": ["OCSP-2013-08", "--read", "CRLReason=Any"],
     "pki_cms": [*CMS, *(word for name in SIGNED for word in ("--only", name))],
-    "pki_cms_enveloped": [*CMS, "--with", "pki_cms", "--only", "EnvelopedData", "--only",
-                          "AuthenticatedData"],
-    "pki_key_containers": ["AsymmetricKeyPackageModuleV1", "--loose"],
+    "pki_cms_enveloped": [*CMS, "--loose", "--with", "pki_cms", "--only", "EnvelopedData",
+                          "--only", "AuthenticatedData"],
+    "pki_key_containers": ["AsymmetricKeyPackageModuleV1"],
     "pbes": ["PKCS5v2-1", "--loose", "--only", "PBEParameter", "--only", "PBES2-params"],
     "pki_timestamps": ["PKIXTSP", "--loose", "--with", "pki_cms=CryptographicMessageSyntax"],
 }
@@ -109,6 +110,18 @@ class Test(unittest.TestCase):
                 self.assertEqual((self.folder / "m").exists(), not is_error)
                 shutil.rmtree(self.folder / "m", ignore_errors=True)
 
+    def test_enumerated(self):
+        """Names without a number get the numbers that the examples of X.680 20 give them."""
+        for text, numbers in (
+            ("a, b, c (0)", [1, 2, 0]), ("a, b, ..., c", [0, 1, 2]),
+            ("a, b, c (0), ..., d", [1, 2, 0, 3]), ("a, b, ..., c (3), d", [0, 1, 3, 4]),
+            ("a, z (25), ..., d", [0, 25, 1]), ("a, b (3), ..., c (1)", [0, 3, 1]),
+        ):
+            with self.subTest(text=text):
+                module = parsed(f"M DEFINITIONS ::= BEGIN A ::= ENUMERATED {{ {text} }} END")
+                found = [item.number for item in module.types["A"].type.items]
+                self.assertEqual(found, numbers)
+
     def test_forms(self):
         write_forms(self.folder)
         self.assertEqual(written(self.folder), WRITTEN.read_text())
@@ -153,7 +166,8 @@ class Test(unittest.TestCase):
         module.write_text("M DEFINITIONS ::= BEGIN A ::= ENUMERATED { a } END")
         self.assertEqual(run(module, crate, "--check")[0], 1)
         run(module, crate)
-        self.assertEqual(sorted(it.name for it in (crate / "src").iterdir()), ["a.rt", "lib.rt"])
+        left = sorted(it.name for it in (crate / "src").iterdir())
+        self.assertEqual(left, ["a.rt", "laws.rt", "lib.rt"])
 
     def test_crates_line(self):
         """The tool prints the line for crates.txt."""

@@ -75,6 +75,8 @@ class Choice:
         self.definition = crate.types.definitions[name]
         fields = self.definition.type.fields
         forms = [crate.types.form(field.type) for field in fields]
+        for field, form in zip(fields, forms):
+            crate.types.check_size(form.rust, field.line)
         variants = [names.variant(field.name) for field in fields]
         self.check(fields, forms, variants)
         count = len(fields)
@@ -140,8 +142,12 @@ class Choice:
         )
 
     def answers(self):
-        """Yields the path and the text of the proofs of `der_cmp` and `first_tag`."""
-        for function, text in (("DerOrd/der_cmp", COMPARED), ("FirstTag/first_tag", TAGGED)):
+        """Yields the path and the text of the proofs of `der_cmp`, `first_tag` and, for a long choice,
+        `encode`."""
+        found = [("DerOrd/der_cmp", COMPARED), ("FirstTag/first_tag", TAGGED)]
+        if len(self.cases) > 7:
+            found.append(("Encode/encode", ENCODED))
+        for function, text in found:
             path = f"{names.module(self.name)}/{self.rust}{function}"
             yield f"proofs/{path}/Answers.antt", text.format(
                 crate=self.crate.name, path=path.replace("/", ".")
@@ -251,7 +257,7 @@ impl FirstTag for {rust} {{
 }}
 """
 COMPARED = """\
--- What is lent are the alternatives of the two values.
+-- The alternatives that are compared are those of the two values.
 use Rattle.{crate}.proofs.{path}.Goals as goal
 
 pub returns-clause-order : goal.returns-clause-order
@@ -264,8 +270,16 @@ pub returns-clause-refused : goal.returns-clause-refused
 returns-clause-refused c = c.cases_cmp.ensures.refused _ _ c.cases.ensures c.cases-2.ensures
 """
 
+ENCODED = """\
+-- The alternative that is encoded is that of the value.
+use Rattle.{crate}.proofs.{path}.Goals as goal
+
+pub returns-clause-front : goal.returns-clause-front
+returns-clause-front g c = rw c.cases.ensures at c.encode_field.ensures.front
+"""
+
 TAGGED = """\
--- What is lent is the alternative of the value.
+-- The first tag is that of the value's alternative.
 use Rattle.{crate}.proofs.{path}.Goals as goal
 
 pub returns : goal.returns

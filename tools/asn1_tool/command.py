@@ -83,7 +83,8 @@ def main(arguments):
     for line in report.lines():
         print(line, file=sys.stderr)
     if report.errors:
-        print(f"{words.module}: {len(report.errors)} errors, nothing is written", file=sys.stderr)
+        count = "1 error" if len(report.errors) == 1 else f"{len(report.errors)} errors"
+        print(f"{words.module}: {count}, nothing is written", file=sys.stderr)
         return 1
     listed = "".join(f"# file {path}\n" for path in sorted(files) if path != TABLE)
     files[TABLE] = f"{HEAD}{listed}{files[TABLE]}"

@@ -39,6 +39,7 @@ class Crate:
             self.aliases([name for name in kept if self.types.kind(name) == "alias"])
             self.wrapper_source()
         self.identifiers()
+        self.laws()
         if not self.exports and not self.report.errors:
             raise Refused(1, "there is no type to write")
         self.lib()
@@ -160,6 +161,7 @@ class Crate:
     def wrapper_source(self):
         if self.wrappers:
             self.files["src/defaults.rt"] = wrappers_source(self.wrappers)
+            self.files.update(numbers.wrapper_answers(self.name, self.wrappers))
             self.exports["defaults"] = []
 
     # Aliases.
@@ -169,6 +171,8 @@ class Crate:
         for name in found:
             definition = self.types.definitions[name]
             rust = self.types.rust(definition.type)
+            if names.camel(name) not in self.types.checked:
+                self.types.check_size(rust, definition.line)
             uses |= rust.uses
             declared = f"pub type {names.camel(name)} = {rust.text};"
             rows.append(f"{layout.comment(definition)}\n{declared}\n")
@@ -177,6 +181,17 @@ class Crate:
             head = ["//! Types of another name.\n", *([uses + "\n"] if uses else [])]
             text = "\n".join([*head, *rows])
             self.add("aliases", text, [names.camel(name) for name in found])
+
+    # Laws.
+
+    def laws(self):
+        """Writes a law with a clause for each type: 64 levels of nesting suffice to decode it."""
+        found = {module: types[0] for module, types in self.exports.items()
+                 if types and module != "aliases"}
+        if found and not self.report.errors:
+            clauses = [law_clause(module, found[module]) for module in sorted(found)]
+            self.files["src/laws.rt"] = LAWS.format(clauses="\n".join(clauses))
+            self.exports["laws"] = None
 
     # Object identifiers.
 
@@ -221,7 +236,7 @@ class Crate:
                 found.append(self.types.module.numbers[arc])
             else:
                 raise Refused(line, f"{name} isn't written: the identifier `{arc}` isn't known")
-        if len(found) < 2 or found[0] > 2 or found[1] > 39:
+        if len(found) < 2 or found[0] > 2 or found[1] > 39 or max(found) >= 2**64:
             raise Refused(line, f"{name} isn't written: the library doesn't support it")
         return found
 
@@ -276,6 +291,11 @@ def exported(module, found):
     return "pub " + layout.use_list(module, found)
 
 
+def law_clause(module, rust):
+    line = f"    ensures {module} {{ are_enough ⟦<{rust} as Shaped>⟧.shape levels_max ≡ true }}"
+    return line if len(line) < layout.LINE else line.replace("enough ", "enough\n        ")
+
+
 def identifier_source(name, arcs):
     octets = [40 * arcs[0] + arcs[1]]
     for arc in arcs[2:]:
@@ -299,6 +319,22 @@ def identifier_source(name, arcs):
 LIB = """\
 //! The types of the ASN.1 module {module}, written by `tools/asn1`.
 #![tactic(auto)]
+"""
+LAWS = """\
+//! A law about the types. It is the contract of a function that does nothing.
+
+ghost use Rattle.std.specs.Prelude.{{◌≡◌, true}};
+ghost use Rattle.der_core.specs.Limits.{{levels_max}};
+ghost use Rattle.der_core.specs.Spelling.{{are_enough}};
+
+use crate::*;
+use der_core::Shaped;
+
+/// No value of these types has more levels of nesting than a reader allows, so decoding accepts all
+/// of their encodings.
+pub fn types_are_within_levels()
+{clauses}
+{{}}
 """
 IDENTIFIERS = """\
 //! Object identifiers.

@@ -113,6 +113,16 @@ def laid(node, indent, before=0, after=0):
     return text
 
 
+def pattern(node, indent, before=0, after=0):
+    """Returns a pattern of nested pairs, which `rt fmt` breaks only if a line is too long."""
+    text = flat(node)
+    if isinstance(node, str) or indent + before + len(text) + after <= LINE:
+        return text
+    rows = "".join(f"{' ' * (indent + 4)}{pattern(it, indent + 4, 0, 1)},\n"
+                   for it in node.members)
+    return f"(\n{rows}{' ' * indent})"
+
+
 def nested(members, last="()"):
     """Returns the nested pairs of a row."""
     found = last
@@ -166,8 +176,9 @@ def filled(items, indent, end=",", width=LINE):
     """Returns the items with commas, as many on each line as fit."""
     lines, pad = [""], " " * indent
     for number, item in enumerate(items):
-        comma = "," if number + 1 < len(items) else end
-        if lines[-1] and indent + len(lines[-1]) + len(item) + len(comma) + 1 > width:
+        is_last = number + 1 == len(items)
+        comma, room = (end, LINE) if is_last else (",", width)
+        if lines[-1] and indent + len(lines[-1]) + len(item) + len(comma) + 1 > room:
             lines.append("")
         lines[-1] += (" " if lines[-1] else "") + item + comma
     return "\n".join(pad + line for line in lines)
@@ -185,9 +196,18 @@ def pairs(parts, indent):
         return row
     following = pairs(rest, indent + 2) if rest else "tt"
     if indent + 2 + len(first) >= LINE:
-        head, _, last = first.rpartition(" ")
-        first = f"{head}\n{inner}    {last}"
+        first = f"\n{inner}    ".join(broken(first, LINE - indent - 6))
     return f"(\n{inner}{first},\n{inner}{following},\n{pad})"
+
+
+def broken(term, room):
+    """Returns the lines of a term that is longer than a line: as many arguments as fit on each."""
+    lines = [""]
+    for word in re.findall(r"(?:⟦[^⟧]*⟧|[^ ⟦])+", term):
+        if lines[-1] and len(lines[-1]) + 1 + len(word) > room:
+            lines.append("")
+        lines[-1] += (" " if lines[-1] else "") + word
+    return lines
 
 
 def list_term(items, indent, before, after):

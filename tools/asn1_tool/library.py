@@ -29,6 +29,10 @@ class RustType:
     bits: int | None = None
     # Its default value, as the module names it.
     default: str | None = None
+    # The constraint of a set that must have a member, which only some fields check.
+    unchecked_size: str | None = None
+    # The type of the members of such a set, if it is known, and what it needs to import.
+    member: tuple[str, frozenset[str]] | None = None
 
     @property
     def crate(self):
@@ -131,6 +135,7 @@ def row(text, path, first, *marks):
         text.replace("~", " "), frozenset(f"{path}::{it}" for it in found), tags,
         is_choice="choice" in marks, is_copy="copy" in marks, is_same="respelled" not in marks,
         default=next((mark[8:] for mark in marks if mark.startswith("default=")), None),
+        unchecked_size="SIZE (1..MAX)" if "size" in marks else None,
     )
 
 
@@ -140,7 +145,7 @@ def cells(name, of):
     marks = [
         mark for mark, holds in (
             ("choice", of.is_choice), ("copy", of.is_copy), ("respelled", not of.is_same),
-            (f"default={of.default}", of.default),
+            (f"default={of.default}", of.default), ("size", of.unchecked_size),
         ) if holds
     ]
     path = next(iter(of.uses), "").rpartition("::")[0] or "-"

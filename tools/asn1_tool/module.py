@@ -37,6 +37,10 @@ class Form:
         more = {f"der_core::{self.mode.capitalize()}"} if self.mode else set()
         return self.rust.uses | more
 
+    def checks_size(self):
+        """Returns whether the type is a set whose size is checked in an OPTIONAL field."""
+        return bool(self.rust.member) and self.mode == "implicit"
+
 
 def overlap(one, other):
     """Returns the tags with which both types can begin; None if one can begin with any tag."""
@@ -56,7 +60,7 @@ class Resolved:
         self.module, self.report, self.table, self.loose = module, report, table, loose
         self.set_type = "der_types_more::AscendingSetOf" if equal_members else SET_TYPE
         self.read, self.definitions, self.instances, self.busy = read or {}, {}, {}, []
-        self.components_of, self.found = {}, {}
+        self.components_of, self.found, self.checked = {}, {}, set()
         self.take_known()
         for name, definition in module.types.items():
             if not definition.parameters and name not in self.definitions:
@@ -530,9 +534,16 @@ class Resolved:
                 self.unchecked(limit, found.text)
         return found
 
+    def check_size(self, rust, line):
+        """Reports that a set may be empty here, although it must have a member."""
+        if rust.unchecked_size:
+            limit = Constraint("size", rust.unchecked_size, line)
+            self.unchecked(limit, rust.text)
+
     def list_of(self, of):
         member = self.form(of.member)
-        is_set = of.word == "SET OF"
+        self.check_size(member.rust, of.line)
+        is_set, unchecked_size, only = of.word == "SET OF", None, None
         text, uses = f"Vec<{member.text()}>", set(member.uses())
         if is_set:
             text = f"{self.set_type.rpartition('::')[2]}<{member.text()}>"
@@ -549,10 +560,19 @@ class Resolved:
                     text = f"SequenceOf<{member.text()}, {high}>"
                     uses.add("der_types::SequenceOf")
                     continue
+            if is_whole and len(of.constraints) == 1 and (low, high) == (1, None):
+                if is_set:
+                    unchecked_size = limit.text
+                    if self.set_type == SET_TYPE and member.rust.is_same:
+                        only = member.text(), frozenset(member.uses())
+                else:
+                    text = f"OneOrMore<{member.text()}>"
+                    uses.add("der_types_more::OneOrMore")
+                continue
             self.unchecked(limit, text)
         return RustType(
             text, frozenset(uses), frozenset(["SET" if is_set else "SEQUENCE"]),
-            is_same=member.rust.is_same,
+            is_same=member.rust.is_same, unchecked_size=unchecked_size, member=only,
         )
 
 

@@ -184,7 +184,7 @@ fn has_content<T: Integer>(value: &T, octets: &[u8]) -> bool
     &written[start..] == octets
 }"""
 WRAPPER = """\
-/// A `{base}` that is absent where it is {value}.
+/// A `{base}` in a field whose default is {value}.
 #[derive(Clone, Copy, Debug)]
 pub struct {name}(pub {base});
 
@@ -229,3 +229,37 @@ impl DefaultContent for {name} {{
         {test}
     }}
 }}"""
+ANSWERS = """\
+-- The content of the default is these bytes.
+use Rattle.std.proofs.Common.{{ℕ, zero, suc, ◌<◌, [], ◌∷◌, get_or, lit<, refl}}
+use Rattle.der_core.specs.Shapes.{{contents}}
+use Rattle.der_core.specs.Integers.{{integer_of}}
+use Rattle.der_core.proofs.IntegerLaws.{{integer_octets-of}}
+use Rattle.{crate}.proofs.{path}.Goals as goal
+
+bytes : (i : ℕ) → get_or ({listed}) i 0 < 256
+{cases}
+
+pub returns-clause-octets : goal.returns-clause-octets
+unfolding contents integer_of
+returns-clause-octets c = integer_octets-of ({listed}) bytes (lit< tt) refl
+"""
+
+
+def wrapper_answers(crate, found):
+    """Yields the path and the text of the proofs of defaults that aren't from 0 to 127."""
+    for name, (_, _, octets) in sorted(found.items()):
+        if is_small(octets):
+            continue
+        indices = ["zero"]
+        for _ in octets[1:]:
+            indices.append(f"(suc {indices[-1]})")
+        last = "i"
+        for _ in octets:
+            last = f"(suc {last})"
+        path = f"defaults/{name}DefaultContent/default_content"
+        yield f"proofs/{path}/Answers.antt", ANSWERS.format(
+            crate=crate, path=path.replace("/", "."),
+            listed=" ∷ ".join([*map(str, octets), "[]"]),
+            cases="\n".join(f"bytes {index} = lit< tt" for index in [*indices, last]),
+        )

@@ -445,18 +445,8 @@ class Parser:
                 (others if extensible else roots).append((name, number))
             if not self.took(",") and self.now.text != "}":
                 raise self.expected("`,` or `}`")
-        used = {number for _, number in roots + others if number is not None}
-        items, free = [], 0
-        for name, number in roots:
-            while number is None and free in used:
-                free += 1
-            used.add(free if number is None else number)
-            items.append(Item(name.text, free if number is None else number, name.line))
-        for name, number in others:
-            if number is None:
-                number = max(used, default=-1) + 1
-                used.add(number)
-            items.append(Item(name.text, number, name.line))
+        items = counted(roots, {number for _, number in roots}, False)
+        items += counted(others, {item.number for item in items}, True)
         return Numbered(line, word, items, extensible)
 
     # Constraints.
@@ -529,3 +519,16 @@ def alternatives(tokens):
 def is_bound(word):
     """Returns whether a word is the end of a range: a number, MIN, MAX or the name of a value."""
     return word in ("MIN", "MAX") or bool(re.fullmatch(r"-?\d+|[a-z][A-Za-z0-9-]*", word))
+
+
+def counted(names, used, is_ascending):
+    """Returns named numbers. A name without a number gets the least one that isn't used; if they
+    ascend, as those after an extension mark, it is also above those before it (X.680 20)."""
+    items, free = [], 0
+    for name, number in names:
+        while number is None and free in used:
+            free += 1
+        found = free if number is None else number
+        items.append(Item(name.text, found, name.line))
+        free = max(free, found + 1) if is_ascending or number is None else free
+    return items

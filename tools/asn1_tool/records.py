@@ -18,6 +18,11 @@ class Column:
     default: object = None
 
     @property
+    def is_filled(self):
+        """Returns whether the field is a set that must have a member if it is present."""
+        return self.optional and self.form.checks_size()
+
+    @property
     def inner(self):
         return self.default.rust if self.default else self.form.rust
 
@@ -40,6 +45,8 @@ class Column:
         """Returns the type of the field in the row."""
         if self.default:
             return f"WithDefault<{self.tagged}>"
+        if self.is_filled:
+            return f"WithDefault<OptionalSet<{self.form.rust.member[0]}, {self.form.number}>>"
         found = f"Option<{self.tagged}>" if self.optional else self.tagged
         return found if self.mode or not by_hand else f"Whole<{found}>"
 
@@ -47,7 +54,7 @@ class Column:
     def word(self):
         """Returns the field as `read_row!` and `lend!` write it, or None if they can't."""
         words = [self.mode, str(self.form.number)] if self.mode else []
-        if self.default and self.default.wrapper:
+        if self.default and self.default.wrapper or self.is_filled:
             return None
         if self.default or self.optional and self.mode:
             words.append("default" if self.default else "optional")
@@ -56,6 +63,8 @@ class Column:
     def term(self, side, value):
         """Returns the ghost term for a decoded (`plain`) or encoded (`written`) field."""
         of = self.form.rust.text
+        if self.is_filled:
+            return f"value_or [] ⟦<{of} as ShapedValue>⟧.value_plain {value}.{self.label}"
         if self.mode == "implicit":
             found = f"⟦<{of} as ShapedValue>⟧.value_{side}"
         else:
@@ -67,6 +76,9 @@ class Column:
     def lend(self, of):
         """Returns the expression that borrows the field of a value."""
         value, number = f"{of}.{self.label}", self.form.number
+        if self.is_filled:
+            members = Call(f"members_of::<_, {number}>", (f"&{value}",))
+            return Literal("WithDefault", (("value", members),))
         if self.default:
             inner = self.default.wrapped(value)
             if self.mode:
@@ -82,6 +94,8 @@ class Column:
     @property
     def back(self):
         """Returns the expression that takes the field's value from the row."""
+        if self.is_filled:
+            return f"{self.label}.value.0"
         if self.optional and self.mode:
             return f"{self.mode}_of({self.label})"
         if not self.mode and not self.default:
@@ -93,10 +107,13 @@ class Column:
         """Returns the paths of the library that the struct and its row need."""
         found = set(self.form.rust.uses) | set(self.inner.uses)
         found.add("der_core::ShapedValue" if self.mode == "implicit" else "der_core::Shaped")
-        if self.mode:
+        if self.mode and not self.is_filled:
             found.add(f"der_core::{self.mode.capitalize()}")
-        if self.default:
+        if self.default or self.is_filled:
             found.add("der_core::WithDefault")
+        if self.is_filled:
+            found |= {"der_types_more::OptionalSet", "der_types_more::members_of"}
+            found |= self.form.rust.member[1]
         return found
 
 
@@ -121,6 +138,10 @@ class Record:
 
     def column(self, field):
         form = self.crate.types.form(field.type)
+        if field.optional and form.checks_size():
+            self.crate.types.checked.add(form.rust.text)
+        else:
+            self.crate.types.check_size(form.rust, field.line)
         if field.default is not None:
             default, form = self.crate.default(field, form)
             return Column(names.snake(field.name), form, False, default)
@@ -159,8 +180,11 @@ class Record:
             self.described(), self.view(), self.decoding(), self.rows(),
         ]
         ghosts = ["ghost use Rattle.std.specs.Prelude.{refl};"]
-        if any(it.optional for it in self.columns):
+        if any(it.optional and not it.is_filled for it in self.columns):
             ghosts.append("ghost use Rattle.der_core.specs.Grammar.{plain_option};")
+        if any(it.is_filled for it in self.columns):
+            ghosts[0] = "ghost use Rattle.std.specs.Prelude.{[], refl};"
+            ghosts.append("ghost use Rattle.der_types_more.specs.OptionalSets.{value_or};")
         uses = self.crate.imports(self.name, self.uses)
         return "\n\n".join([f"//! {self.rust}.", "\n".join(ghosts), uses, *parts]) + "\n"
 
@@ -215,12 +239,16 @@ class Record:
         self.uses.add("der_core::describing::ReadRow")
         if any(not it.mode and not it.default for it in self.columns):
             self.uses.add("der_core::describing::Whole")
-        row = layout.flat(layout.nested([it.label for it in self.columns]))
+        row = layout.nested([it.label for it in self.columns])
         fields = tuple((it.label, it.back) for it in self.columns)
         made = layout.laid(Call("Ok", (Literal(self.rust, fields),)), 8)
         self.uses.update(f"der_core::making::{it.mode}_of" for it in self.columns
-                         if it.optional and it.mode)
-        return f"        let {row} = Row::read_row(alloc, reader)?;\n        {made}"
+                         if it.optional and it.mode and not it.is_filled)
+        found = layout.pattern(row, 8, len("let "), len(" = Row::read_row("))
+        line = f"        let {found} = Row::read_row(alloc, reader)?;"
+        if "\n" not in found and len(line) > layout.LINE:
+            line = line.replace("(alloc, reader)", "(\n            alloc, reader,\n        )")
+        return f"{line}\n        {made}"
 
     def rows(self):
         if self.by_hand:
@@ -240,6 +268,8 @@ class Record:
 
     def lend_uses(self):
         for it in self.columns:
+            if it.is_filled:
+                continue
             if it.optional and it.mode:
                 self.uses.add(f"der_core::making::{it.mode}_ref")
             elif it.default:
@@ -250,7 +280,7 @@ class Record:
 
 
 LENT = """\
--- What is lent are the fields of the record.
+-- The two rows have the fields of the two values.
 use Rattle.std.proofs.Common.{{rules}}
 use Rattle.{crate}.proofs.{path}.Goals as goal
 

@@ -1,1 +1,3 @@
 mod Cited
+pub mod OptionalSets
+pub mod FirstMembers

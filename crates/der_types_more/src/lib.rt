@@ -1,10 +1,13 @@
 //! More types of ASN.1 modules: owned VisibleString, NumericString and GeneralString, an owned
-//! SEQUENCE whose content isn't decoded, SET OF with equal members, and BOOLEAN DEFAULT TRUE.
+//! SEQUENCE whose content isn't decoded, SET OF with equal members, SEQUENCE OF and OPTIONAL SET OF
+//! with at least one member, and BOOLEAN DEFAULT TRUE.
 #![tactic(auto)]
 
 mod ascending_set_of;
 mod general_string;
 mod numeric_string;
+mod one_or_more;
+mod optional_set;
 mod or_true;
 mod sequence_owned;
 mod visible_string;
@@ -12,6 +15,8 @@ mod visible_string;
 pub use ascending_set_of::AscendingSetOf;
 pub use general_string::GeneralString;
 pub use numeric_string::{Numeric, NumericString, NumericStringRef};
+pub use one_or_more::OneOrMore;
+pub use optional_set::{OptionalSet, SetMembers, members_of};
 pub use or_true::OrTrue;
 pub use sequence_owned::SequenceOwned;
 pub use visible_string::{Visible, VisibleString, VisibleStringRef};

@@ -1,14 +1,18 @@
 //! EncryptedData.
 
-ghost use Rattle.std.specs.Prelude.{refl};
-ghost use Rattle.der_core.specs.Grammar.{plain_option};
+ghost use Rattle.std.specs.Prelude.{[], refl};
+ghost use Rattle.der_types_more.specs.OptionalSets.{value_or};
 
 use crate::aliases::UnprotectedAttributes;
 use crate::cms_version::CmsVersion;
 use crate::encrypted_content_info::EncryptedContentInfo;
-use der_core::describing::{AsRecord, Described, FieldRow, FieldsView, RowUser, Rows};
-use der_core::{DecodeFields, Error, Implicit, Reader, Shaped, ShapedValue, lend, read_row};
+use der_core::describing::{
+    AsRecord, Described, FieldRow, FieldsView, ReadRow, RowUser, Rows, Whole,
+};
+use der_core::{DecodeFields, EncodeRef, Error, Reader, Shaped, ShapedValue, WithDefault};
+use der_types_more::{OptionalSet, members_of};
 use std::alloc::Global;
+use x509_cert_reading::Attribute;
 
 /// ```text
 /// EncryptedData ::= SEQUENCE {
@@ -24,10 +28,10 @@ pub struct EncryptedData {
 }
 
 type Row = (
-    CmsVersion,
+    Whole<CmsVersion>,
     (
-        EncryptedContentInfo,
-        (Option<Implicit<UnprotectedAttributes, 1>>, ()),
+        Whole<EncryptedContentInfo>,
+        (WithDefault<OptionalSet<Attribute, 1>>, ()),
     ),
 );
 
@@ -42,23 +46,52 @@ impl FieldsView for EncryptedData {
       ⟦<CmsVersion as Shaped>⟧.plain r.version,
       (
         ⟦<EncryptedContentInfo as Shaped>⟧.plain r.encrypted_content_info,
-        (plain_option ⟦<UnprotectedAttributes as ShapedValue>⟧.value_plain r.unprotected_attrs, tt),
+        (value_or [] ⟦<UnprotectedAttributes as ShapedValue>⟧.value_plain r.unprotected_attrs, tt),
       ),
     ) };
 }
 
 impl<'a, R: Reader<'a>> DecodeFields<'a, R> for EncryptedData {
     fn decode_fields(alloc: Global, reader: &mut R) -> Result<EncryptedData, Error> {
-        read_row!(alloc, reader; EncryptedData {
-            version, encrypted_content_info, unprotected_attrs: implicit 1 optional,
+        let (version, (encrypted_content_info, (unprotected_attrs, ()))) = Row::read_row(
+            alloc, reader,
+        )?;
+        Ok(EncryptedData {
+            version: version.0,
+            encrypted_content_info: encrypted_content_info.0,
+            unprotected_attrs: unprotected_attrs.value.0,
         })
     }
 }
 
 impl Rows for EncryptedData {
     fn with_rows<U: RowUser>(&self, other: &Self, user: &mut U) -> U::Answer {
-        lend!(self, other, user;
-            version, encrypted_content_info, unprotected_attrs: implicit 1 optional)
+        user.take_lent(
+            &(
+                EncodeRef(&self.version),
+                (
+                    EncodeRef(&self.encrypted_content_info),
+                    (
+                        WithDefault {
+                            value: members_of::<_, 1>(&self.unprotected_attrs),
+                        },
+                        (),
+                    ),
+                ),
+            ),
+            &(
+                EncodeRef(&other.version),
+                (
+                    EncodeRef(&other.encrypted_content_info),
+                    (
+                        WithDefault {
+                            value: members_of::<_, 1>(&other.unprotected_attrs),
+                        },
+                        (),
+                    ),
+                ),
+            ),
+        )
     }
 
     ghost apart = { refl };

@@ -11,6 +11,7 @@ mod encrypted_content_info;
 mod encrypted_data;
 pub mod identifiers;
 mod issuer_and_serial_number;
+pub mod laws;
 mod other_certificate_format;
 mod other_revocation_info_format;
 mod revocation_info_choice;

@@ -1,7 +1,7 @@
 //! SignerInfo.
 
-ghost use Rattle.std.specs.Prelude.{refl};
-ghost use Rattle.der_core.specs.Grammar.{plain_option};
+ghost use Rattle.std.specs.Prelude.{[], refl};
+ghost use Rattle.der_types_more.specs.OptionalSets.{value_or};
 
 use crate::aliases::{
     DigestAlgorithmIdentifier, SignatureAlgorithmIdentifier, SignatureValue, SignedAttributes,
@@ -9,9 +9,13 @@ use crate::aliases::{
 };
 use crate::cms_version::CmsVersion;
 use crate::signer_identifier::SignerIdentifier;
-use der_core::describing::{AsRecord, Described, FieldRow, FieldsView, RowUser, Rows};
-use der_core::{DecodeFields, Error, Implicit, Reader, Shaped, ShapedValue, lend, read_row};
+use der_core::describing::{
+    AsRecord, Described, FieldRow, FieldsView, ReadRow, RowUser, Rows, Whole,
+};
+use der_core::{DecodeFields, EncodeRef, Error, Reader, Shaped, ShapedValue, WithDefault};
+use der_types_more::{OptionalSet, members_of};
 use std::alloc::Global;
+use x509_cert_reading::Attribute;
 
 /// ```text
 /// SignerInfo ::= SEQUENCE {
@@ -35,18 +39,18 @@ pub struct SignerInfo {
 }
 
 type Row = (
-    CmsVersion,
+    Whole<CmsVersion>,
     (
-        SignerIdentifier,
+        Whole<SignerIdentifier>,
         (
-            DigestAlgorithmIdentifier,
+            Whole<DigestAlgorithmIdentifier>,
             (
-                Option<Implicit<SignedAttributes, 0>>,
+                WithDefault<OptionalSet<Attribute, 0>>,
                 (
-                    SignatureAlgorithmIdentifier,
+                    Whole<SignatureAlgorithmIdentifier>,
                     (
-                        SignatureValue,
-                        (Option<Implicit<UnsignedAttributes, 1>>, ()),
+                        Whole<SignatureValue>,
+                        (WithDefault<OptionalSet<Attribute, 1>>, ()),
                     ),
                 ),
             ),
@@ -68,13 +72,13 @@ impl FieldsView for SignerInfo {
         (
           ⟦<DigestAlgorithmIdentifier as Shaped>⟧.plain r.digest_algorithm,
           (
-            plain_option ⟦<SignedAttributes as ShapedValue>⟧.value_plain r.signed_attrs,
+            value_or [] ⟦<SignedAttributes as ShapedValue>⟧.value_plain r.signed_attrs,
             (
               ⟦<SignatureAlgorithmIdentifier as Shaped>⟧.plain r.signature_algorithm,
               (
                 ⟦<SignatureValue as Shaped>⟧.plain r.signature,
                 (
-                  plain_option ⟦<UnsignedAttributes as ShapedValue>⟧.value_plain r.unsigned_attrs,
+                  value_or [] ⟦<UnsignedAttributes as ShapedValue>⟧.value_plain r.unsigned_attrs,
                   tt,
                 ),
               ),
@@ -87,18 +91,84 @@ impl FieldsView for SignerInfo {
 
 impl<'a, R: Reader<'a>> DecodeFields<'a, R> for SignerInfo {
     fn decode_fields(alloc: Global, reader: &mut R) -> Result<SignerInfo, Error> {
-        read_row!(alloc, reader; SignerInfo {
-            version, sid, digest_algorithm, signed_attrs: implicit 0 optional, signature_algorithm,
-            signature, unsigned_attrs: implicit 1 optional,
+        let (
+            version,
+            (
+                sid,
+                (
+                    digest_algorithm,
+                    (signed_attrs, (signature_algorithm, (signature, (unsigned_attrs, ())))),
+                ),
+            ),
+        ) = Row::read_row(alloc, reader)?;
+        Ok(SignerInfo {
+            version: version.0,
+            sid: sid.0,
+            digest_algorithm: digest_algorithm.0,
+            signed_attrs: signed_attrs.value.0,
+            signature_algorithm: signature_algorithm.0,
+            signature: signature.0,
+            unsigned_attrs: unsigned_attrs.value.0,
         })
     }
 }
 
 impl Rows for SignerInfo {
     fn with_rows<U: RowUser>(&self, other: &Self, user: &mut U) -> U::Answer {
-        lend!(self, other, user;
-            version, sid, digest_algorithm, signed_attrs: implicit 0 optional, signature_algorithm,
-            signature, unsigned_attrs: implicit 1 optional)
+        user.take_lent(
+            &(
+                EncodeRef(&self.version),
+                (
+                    EncodeRef(&self.sid),
+                    (
+                        EncodeRef(&self.digest_algorithm),
+                        (
+                            WithDefault {
+                                value: members_of::<_, 0>(&self.signed_attrs),
+                            },
+                            (
+                                EncodeRef(&self.signature_algorithm),
+                                (
+                                    EncodeRef(&self.signature),
+                                    (
+                                        WithDefault {
+                                            value: members_of::<_, 1>(&self.unsigned_attrs),
+                                        },
+                                        (),
+                                    ),
+                                ),
+                            ),
+                        ),
+                    ),
+                ),
+            ),
+            &(
+                EncodeRef(&other.version),
+                (
+                    EncodeRef(&other.sid),
+                    (
+                        EncodeRef(&other.digest_algorithm),
+                        (
+                            WithDefault {
+                                value: members_of::<_, 0>(&other.signed_attrs),
+                            },
+                            (
+                                EncodeRef(&other.signature_algorithm),
+                                (
+                                    EncodeRef(&other.signature),
+                                    (
+                                        WithDefault {
+                                            value: members_of::<_, 1>(&other.unsigned_attrs),
+                                        },
+                                        (),
+                                    ),
+                                ),
+                            ),
+                        ),
+                    ),
+                ),
+            ),
+        )
     }
 
     ghost apart = { refl };

@@ -3,12 +3,13 @@
 use crate::one_asymmetric_key::OneAsymmetricKey;
 use der_core::StrictSetOf;
 use der_types::{BitString, OctetString};
+use der_types_more::OneOrMore;
 use x509_cert_reading::{AlgorithmIdentifier, Attribute};
 
 /// ```text
 /// AsymmetricKeyPackage ::= SEQUENCE SIZE (1..MAX) OF OneAsymmetricKey
 /// ```
-pub type AsymmetricKeyPackage = Vec<OneAsymmetricKey>;
+pub type AsymmetricKeyPackage = OneOrMore<OneAsymmetricKey>;
 
 /// ```text
 /// PrivateKeyInfo ::= OneAsymmetricKey

@@ -4,6 +4,7 @@
 mod aliases;
 mod encrypted_private_key_info;
 pub mod identifiers;
+pub mod laws;
 mod one_asymmetric_key;
 mod version;
 

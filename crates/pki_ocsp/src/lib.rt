@@ -7,6 +7,7 @@ mod cert_id;
 mod cert_status;
 mod crl_id;
 pub mod identifiers;
+pub mod laws;
 mod ocsp_request;
 mod ocsp_response;
 mod ocsp_response_status;

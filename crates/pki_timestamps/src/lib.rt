@@ -4,6 +4,7 @@
 mod accuracy;
 mod aliases;
 pub mod identifiers;
+pub mod laws;
 mod message_imprint;
 mod pki_failure_info;
 mod pki_status;

@@ -1,4 +1,4 @@
--- What is lent are the fields of the record.
+-- The two rows have the fields of the two values.
 use Rattle.std.proofs.Common.{rules}
 use Rattle.pki_cms.proofs.issuer_and_serial_number.IssuerAndSerialNumberRows.with_rows.Goals as goal
 

@@ -1,4 +1,4 @@
--- What is lent are the alternatives of the two values.
+-- The alternatives that are compared are those of the two values.
 use Rattle.pki_cms.proofs.signer_identifier.SignerIdentifierDerOrd.der_cmp.Goals as goal
 
 pub returns-clause-order : goal.returns-clause-order

@@ -1,4 +1,4 @@
--- What is lent is the alternative of the value.
+-- The first tag is that of the value's alternative.
 use Rattle.pki_cms.proofs.signer_identifier.SignerIdentifierFirstTag.first_tag.Goals as goal
 
 pub returns : goal.returns

@@ -1,0 +1,18 @@
+//! A law about the types. It is the contract of a function that does nothing.
+
+ghost use Rattle.std.specs.Prelude.{◌≡◌, true};
+ghost use Rattle.der_core.specs.Limits.{levels_max};
+ghost use Rattle.der_core.specs.Spelling.{are_enough};
+
+use crate::*;
+use der_core::Shaped;
+
+/// No value of these types has more levels of nesting than a reader allows, so decoding accepts all
+/// of their encodings.
+pub fn types_are_within_levels()
+    ensures encrypted_private_key_info { are_enough
+        ⟦<EncryptedPrivateKeyInfo as Shaped>⟧.shape levels_max ≡ true }
+    ensures one_asymmetric_key { are_enough
+        ⟦<OneAsymmetricKey as Shaped>⟧.shape levels_max ≡ true }
+    ensures version { are_enough ⟦<Version as Shaped>⟧.shape levels_max ≡ true }
+{}

@@ -1,0 +1,24 @@
+//! A law about the types. It is the contract of a function that does nothing.
+
+ghost use Rattle.std.specs.Prelude.{◌≡◌, true};
+ghost use Rattle.der_core.specs.Limits.{levels_max};
+ghost use Rattle.der_core.specs.Spelling.{are_enough};
+
+use crate::*;
+use der_core::Shaped;
+
+/// No value of these types has more levels of nesting than a reader allows, so decoding accepts all
+/// of their encodings.
+pub fn types_are_within_levels()
+    ensures accuracy { are_enough ⟦<Accuracy as Shaped>⟧.shape levels_max ≡ true }
+    ensures message_imprint { are_enough ⟦<MessageImprint as Shaped>⟧.shape levels_max ≡ true }
+    ensures pki_failure_info { are_enough ⟦<PkiFailureInfo as Shaped>⟧.shape levels_max ≡ true }
+    ensures pki_status { are_enough ⟦<PkiStatus as Shaped>⟧.shape levels_max ≡ true }
+    ensures pki_status_info { are_enough ⟦<PkiStatusInfo as Shaped>⟧.shape levels_max ≡ true }
+    ensures time_stamp_req { are_enough ⟦<TimeStampReq as Shaped>⟧.shape levels_max ≡ true }
+    ensures time_stamp_req_version { are_enough
+        ⟦<TimeStampReqVersion as Shaped>⟧.shape levels_max ≡ true }
+    ensures time_stamp_resp { are_enough ⟦<TimeStampResp as Shaped>⟧.shape levels_max ≡ true }
+    ensures tst_info { are_enough ⟦<TstInfo as Shaped>⟧.shape levels_max ≡ true }
+    ensures tst_info_version { are_enough ⟦<TstInfoVersion as Shaped>⟧.shape levels_max ≡ true }
+{}
