@@ -1,31 +1,38 @@
-//! Signers: validates the certification path of a signer among the certificates of a message.
+//! Signers: validates the certification path of a signer among the certificates of a signed message
+//! or of an OCSP response.
 //!
-//! Each line of standard input is about one signer. Its six words are
+//! Each line of standard input is about one signer. Its five words are
 //!
 //! - the validation time, in seconds since 1970-01-01T00:00:00Z;
-//! - a certificate that is trusted;
-//! - the certificates of the message, one after another;
-//! - the issuer and the serial number of the signer's certificate, each in DER;
+//! - a certificate that is trusted. For a response, it is that of the CA whose certificates the
+//!   response is about;
+//! - the certificates of the message or the response, one after another;
+//! - the SignerIdentifier of the message, or the ResponderID of the response, in DER;
 //! - the lines of an earlier answer whose signatures a verifier accepted, or `-`.
 //!
 //! All but the first are in hex. The program prints the subjects of the path, the certificate that
 //! the trust anchor issued first, and then the verdict. If a signature isn't accepted yet, the
 //! verifier's lines follow. An empty line ends the answer.
+//!
+//! The CA must have issued the certificate of a responder itself, and the certificate must have the
+//! key purpose id-kp-OCSPSigning (RFC 6960 4.2.2.2).
 #![tactic(auto)]
 
 ghost use Rattle.std.specs.Prelude.{◌≡◌, ◌≤◌};
 
 mod question;
+mod signer;
 
 use cert_desk_checking::desk_bundle::{Bundle, Standing};
 use cert_desk_checking::desk_rules::{Rule, Verdict};
 use cert_desk_checking::{chain_lines, check};
-use der_core::oid::ObjectIdentifier;
 use der_core::{Error, ErrorKind, Result};
-use pki_signers::{chain_of, find_by_issuer_and_serial, path_to};
+use pki_signers::{chain_of, path_to};
 use question::Question;
+use signer::Signer;
 use std::alloc::Global;
 use std::io;
+use x509_cert_extensions::ExtendedKeyUsage;
 
 /// The largest certificate that is accepted.
 const LIMIT: u32 = 0x10_0000;
@@ -59,15 +66,37 @@ fn verdict_on(alloc: Global, question: &Question) -> Result<String> {
 fn text_of_signer(alloc: Global, question: &Question, certificates: &Bundle) -> Result<String>
     requires { 6 ≤ certificates.now.limit }
 {
-    let found = find_by_issuer_and_serial(certificates, &question.issuer, &question.serial_number);
-    let Some(signer) = found else {
+    let Some(place) = question.signer.find(certificates) else {
         return Ok(format!(in alloc; "no certificate of the signer\n")?);
     };
-    let path = path_to(alloc, certificates, signer, question.anchors.as_slice())?;
+    let path = path_to(alloc, certificates, place, question.anchors.as_slice())?;
     match chain_of(alloc, certificates, path.as_slice()) {
-        Ok(chain) => text_of_chain(alloc, question, &chain),
+        Ok(chain) => text_of_authorized(alloc, question, &chain),
         Err(_) => Err(Error::from(ErrorKind::Failed)),
     }
+}
+
+/// Returns the text of a chain, or that the signer of a response isn't authorized.
+fn text_of_authorized(alloc: Global, question: &Question, chain: &Bundle) -> Result<String>
+    requires { chain.now.standing ≡ Standing.Ended }
+{
+    if let Signer::OfResponse(_) = question.signer {
+        if chain.len() != 1 || !has_purposes(alloc, chain)? {
+            return Ok(format!(in alloc; "no authorized responder\n")?);
+        }
+    }
+    text_of_chain(alloc, question, chain)
+}
+
+/// Returns whether the first certificate of a chain has an extKeyUsage, which `check` compares with
+/// the key purpose.
+fn has_purposes(alloc: Global, chain: &Bundle) -> Result<bool> {
+    let Some(entry) = chain.get(0) else {
+        return Ok(false);
+    };
+    let signed = entry.certificate.tbs_certificate();
+    let purposes = signed.get_extension::<ExtendedKeyUsage>(alloc)?;
+    Ok(purposes.is_some())
 }
 
 /// Returns the subjects of a chain, the verdict on it, and the lines for the verifier.
@@ -92,8 +121,7 @@ fn text_of_chain(alloc: Global, question: &Question, chain: &Bundle) -> Result<S
 fn verdict_of(alloc: Global, question: &Question, chain: &Bundle) -> Result<Verdict>
     requires { chain.now.standing ≡ Standing.Ended }
 {
-    // The key purpose id-kp-emailProtection (RFC 5280 4.2.1.12).
-    let purpose = ObjectIdentifier::from_bytes_unwrap(&[0x2b, 6, 1, 5, 5, 7, 3, 4]);
+    let purpose = question.signer.purpose();
     let mut judge = question.judge(alloc)?;
     let anchors = question.anchors.as_slice();
     match check(alloc, chain, anchors, question.moment, &purpose, &mut judge) {

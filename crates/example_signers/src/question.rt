@@ -1,13 +1,13 @@
 //! Questions about a signer.
 
+use crate::signer::Signer;
 use cert_desk_answers::answers_in;
 use cert_desk_checking::Anchor;
 use cert_desk_checking::desk_rules::AnswersJudge;
 use der_core::{Error, ErrorKind, FromDer, Result};
 use std::alloc::Global;
 use x509_cert_certificates::CertificateInner;
-use x509_cert_certificates::cert_names::Name;
-use x509_cert_certificates::cert_parts::{Raw, SerialNumber};
+use x509_cert_certificates::cert_parts::Raw;
 
 /// A question about a signer.
 #[derive(Drop)]
@@ -15,11 +15,9 @@ pub struct Question {
     /// The validation time.
     pub moment: u64,
     pub anchors: Vec<Anchor>,
-    /// The certificates of the message, one after another.
+    /// The certificates of the message or the response, one after another.
     pub certificates: Vec<u8>,
-    /// The issuer and the serial number of the signer's certificate.
-    pub issuer: Name,
-    pub serial_number: SerialNumber<Raw>,
+    pub signer: Signer,
     // The lines whose signatures a verifier accepted.
     answers: Vec<u8>,
 }
@@ -33,8 +31,7 @@ impl Question {
         };
         let anchor = octets_of(alloc, words.next().unwrap_or(""))?;
         let certificates = octets_of(alloc, words.next().unwrap_or(""))?;
-        let issuer = octets_of(alloc, words.next().unwrap_or(""))?;
-        let serial_number = octets_of(alloc, words.next().unwrap_or(""))?;
+        let signer = octets_of(alloc, words.next().unwrap_or(""))?;
         let answers = octets_of(alloc, words.next().unwrap_or(""))?;
         let mut anchors = Vec::new(alloc);
         anchors.push(anchor_of(alloc, anchor.as_slice())?)?;
@@ -42,8 +39,7 @@ impl Question {
             moment,
             anchors,
             certificates,
-            issuer: Name::from_der(alloc, issuer.as_slice())?,
-            serial_number: SerialNumber::from_der(alloc, serial_number.as_slice())?,
+            signer: Signer::read(alloc, signer.as_slice())?,
             answers,
         })
     }

@@ -3,3 +3,4 @@ pub mod ChainSteps
 pub mod PathSteps
 pub mod PathLaws
 pub mod Subjects
+pub mod KeyIdentifiers

@@ -3,9 +3,9 @@
 //! the signed part of an encoding.
 //!
 //! The certificates of a message are a SET OF, so they are sorted by their encodings. Feed them to
-//! a [`Bundle`] in that order. [`find_by_issuer_and_serial`] finds the signer's certificate among
-//! them, [`path_to`] its certification path, and [`chain_of`] makes a bundle of the certificates of
-//! the path, which `cert_desk_checking::check` validates.
+//! a [`Bundle`] in that order. [`find_by_issuer_and_serial`] or [`find_by_key_identifier`] finds
+//! the signer's certificate among them, [`path_to`] its certification path, and [`chain_of`] makes
+//! a bundle of the certificates of the path, which `cert_desk_checking::check` validates.
 //!
 //! [`Bundle`]: cert_desk_checking::desk_bundle::Bundle
 //!
@@ -20,7 +20,9 @@ mod signers;
 pub use chains::chain_of;
 pub use paths::path_to;
 pub use signed_parts::first_field;
-pub use signers::{find_by_issuer_and_serial, find_by_key_hash, find_by_subject};
+pub use signers::{
+    find_by_issuer_and_serial, find_by_key_hash, find_by_key_identifier, find_by_subject,
+};
 
 /// The items of `cert_desk_checking` that the crates above use.
 pub mod desk_checking {

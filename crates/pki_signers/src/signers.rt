@@ -1,20 +1,25 @@
 //! The certificate of a signer among the certificates of a bundle.
 
-ghost use Rattle.std.specs.Prelude.{◌≡◌, ◌<◌, length, IfSome};
-ghost use Rattle.std.specs.List.{position};
+ghost use Rattle.std.specs.Prelude.{◌≡◌, ◌<◌, length, IfSome, bytes_eq};
+ghost use Rattle.std.specs.List.{list_any, position};
 ghost use Rattle.cert_desk_checking.specs.Oid.Bound.{Bound};
+ghost use Rattle.cert_desk_checking.specs.CertParts.Views.{extension_plain, extensions_plain};
 ghost use Rattle.cert_desk_checking.specs.Der.Shapes.{IsValid};
 ghost use Rattle.cert_desk_checking.specs.CertCertificates.Certificates.{raw_certificate};
 ghost use Rattle.cert_desk_checking.specs.CertCertificates.Views.{certificate_plain};
 ghost use Rattle.cert_desk_checking.specs.CertCertificates.CertNames.Views.{name_plain};
-ghost use Rattle.pki_signers.specs.Signers.{has_issuer_and_serial, has_key_hash, has_subject};
+ghost use Rattle.der_core.specs.Heads.{Fits, tlv};
+ghost use Rattle.pki_signers.specs.Signers.{has_issuer_and_serial, has_key_hash};
+ghost use Rattle.pki_signers.specs.Signers.{has_key_identifier, has_subject, is_key_identifier};
 
 use cert_desk_checking::desk_bundle::Bundle;
 use cert_desk_checking::is_issued_by;
+use der_core::oid::ObjectIdentifier;
+use der_core::{Tag, header_of};
 use sha1::Sha1;
 use x509_cert_certificates::CertificateInner;
 use x509_cert_certificates::cert_names::Name;
-use x509_cert_certificates::cert_parts::{Raw, SerialNumber};
+use x509_cert_certificates::cert_parts::{Extension, Raw, SerialNumber};
 
 /// Returns the index of the first certificate with this issuer and this serial number, which
 /// together identify a certificate (RFC 5280 4.1.2.2; issuerAndSerialNumber of RFC 5652 10.2.4).
@@ -52,6 +57,76 @@ fn has_issuer_and_serial(
         return is_issued_by(certificate, issuer);
     }
     false
+}
+
+/// Returns the index of the first certificate that has a subjectKeyIdentifier extension with this
+/// key identifier (RFC 5280 4.2.1.2; subjectKeyIdentifier of RFC 5652 5.3).
+pub fn find_by_key_identifier(certificates: &Bundle, key_identifier: &[u8]) -> Option<usize>
+    ensures found { result ≡ position (has_key_identifier key_identifier.now)
+        certificates.now.certificates }
+    ensures within { IfSome result (λ place. place < length certificates.now.certificates) }
+{
+    for place in 0..certificates.len() {
+        let entry = certificates.get(place).unwrap();
+        if has_key_identifier(entry.certificate, key_identifier) {
+            return Some(place);
+        }
+    }
+    None
+}
+
+// Returns whether a certificate has a subjectKeyIdentifier with this key identifier.
+fn has_key_identifier(certificate: &CertificateInner<Raw>, key_identifier: &[u8]) -> bool
+    ensures { result ≡ has_key_identifier key_identifier.now (certificate_plain certificate.now) }
+{
+    match certificate.tbs_certificate().extensions() {
+        Some(extensions) => any_key_identifier(extensions.as_slice(), key_identifier),
+        None => false,
+    }
+}
+
+// Returns whether one of the extensions is a subjectKeyIdentifier with this key identifier.
+fn any_key_identifier(extensions: &[Extension], key_identifier: &[u8]) -> bool
+    ensures { result ≡ list_any (is_key_identifier key_identifier.now)
+        (extensions_plain extensions.now) }
+{
+    for extension in extensions {
+        if is_key_identifier(extension, key_identifier) {
+            return true;
+        }
+    }
+    false
+}
+
+// Returns whether the extension is a subjectKeyIdentifier with this key identifier.
+fn is_key_identifier(extension: &Extension, key_identifier: &[u8]) -> bool
+    ensures { result ≡ is_key_identifier key_identifier.now (extension_plain extension.now) }
+{
+    // id-ce-subjectKeyIdentifier, 2.5.29.14.
+    let identifier = ObjectIdentifier::from_bytes_unwrap(&[0x55, 0x1d, 14]);
+    if extension.extn_id != identifier {
+        return false;
+    }
+    // Only for the proof: the length fits 32 bits.
+    let _len = extension.extn_value.len();
+    is_octet_string(extension.extn_value.as_bytes(), key_identifier)
+}
+
+// Returns whether the bytes are the encoding of an OCTET STRING with this content.
+fn is_octet_string(octets: &[u8], content: &[u8]) -> bool
+    requires { Fits octets.now }
+    ensures { result ≡ bytes_eq octets.now (tlv Tag.OctetString content.now) }
+{
+    let Ok((header, start)) = header_of(octets) else {
+        return false;
+    };
+    let Tag::OctetString = header.tag else {
+        return false;
+    };
+    if header.length.value as usize != content.len() {
+        return false;
+    }
+    &octets[start..] == content
 }
 
 /// Returns the index of the first certificate with this subject (byName of RFC 6960 4.2.1).

@@ -1,4 +1,4 @@
-//! The answers of a response (RFC 6960 4.2.1).
+//! Finding the answer of an OCSP response for a certificate (RFC 6960 4.2.1).
 
 ghost use Rattle.std.specs.Prelude.{◌≡◌, IfOk, IfErr, find, option_copied};
 ghost use Rattle.der_core.specs.Oid.Bound.{Bound};
@@ -18,9 +18,13 @@ use x509_cert_reading::{CertificateInner, Raw, SubjectPublicKeyInfo};
 /// Returns the answer for a certificate whose issuer has this key: the first one whose CertID
 /// identifies the certificate ([`identifies`]), or `None` if there is no answer for it.
 ///
+/// **The answer isn't verified.** Before you use it, verify the signature of the response, check
+/// that its signer may answer for the issuer (RFC 6960 4.2.2.2), and compare `this_update` and
+/// `next_update` with the time. docs/GUIDE.md lists what else has to be checked.
+///
 /// # Errors
 ///
-/// - As those of [`identifies`].
+/// - The errors of [`identifies`].
 pub fn find_answer<'a>(
     alloc: Global,
     answers: &'a [SingleResponse],

@@ -72,7 +72,7 @@ fn has_key_hash(function: HashFunction, id: &CertId, issuer_key: &SubjectPublicK
 ///
 /// # Errors
 ///
-/// - As those of [`identifies`].
+/// - The errors of [`identifies`].
 pub fn cert_id_of(
     alloc: Global,
     function: HashFunction,
