@@ -155,6 +155,16 @@ def block(of):
     return [f"{of['addressFamily']}{safi}{inherit}", *indented(items)]
 
 
+def responder(of):
+    if "byKey" in of:
+        return [f"responder key {of['byKey']}"]
+    return after("responder name ", name(of["byName"]))
+
+
+def attributes(word):
+    return each(headed(lambda of: f"{word} {identifier(of)}"))
+
+
 def extension_heading(of):
     return f"extension {identifier(of)}{' critical' if of['critical'] else ''}"
 
@@ -180,6 +190,17 @@ LINES = {
     "indirectCRL": "also certificates of other issuers",
     "unusedBits": "unused bits {}", "unread": "not read here: {}",
     "templateMajorVersion": "major version {}", "templateMinorVersion": "minor version {}",
+    "issuerNameHash": "issuer-name-hash {}", "issuerKeyHash": "issuer-key-hash {}",
+    "producedAt": "produced-at {}", "revocationTime": "revocation-time {}",
+    "revocationReason": "revocation-reason {}", "nonce": "nonce {}", "crlNum": "CRL number {}",
+    "crlTime": "CRL time {}", "length": "length {}", "detached": "detached", "choice": "choice {}",
+    "subjectKeyIdentifier": "key {}", "hashedMessage": "hashed-message {}", "genTime": "time {}",
+    "seconds": "seconds {}", "millis": "milliseconds {}", "micros": "microseconds {}",
+    "ordering": "ordering", "privateKeyLength": "private key {} bytes",
+    "publicKey": "public key {}", "salt": "salt {}", "iterationCount": "iterations {}",
+    "keyLength": "key length {}", "costParameter": "cost {}", "blockSize": "block size {}",
+    "parallelizationParameter": "parallelization {}",
+    "encryptedDataLength": "encrypted data {} bytes",
     "cA": lambda of: [f"authority {'yes' if of else 'no'}"],
     "nameRelativeToCRLIssuer": lambda of: [f"below the issuer {shown(of)}"],
     "value": lambda of: [value(of)],
@@ -223,8 +244,38 @@ LINES = {
     "policies": each(headed(identifier)),
     "qualifiers": each(qualifier),
     "timestamps": each(timestamp),
-    "attributes": each(headed(lambda of: f"attribute {identifier(of)}")),
-    "values": each(lambda of: members(of) if "extensions" in of else [value(of)]),
+    "attributes": attributes("attribute"),
+    "signedAttrs": attributes("attribute"),
+    "unsignedAttrs": attributes("unsigned attribute"),
+    "values": each(lambda of: members(of) if {"extensions", "date"} & of.keys() else [value(of)]),
+    "requestorName": lambda of: after("requestor ", members(of)),
+    "requestList": each(headed(lambda of: "request")),
+    "responseType": lambda of: [f"response-type {identifier(of)}"],
+    "responderID": responder,
+    "responses": each(headed(lambda of: "response")),
+    "crlUrl": lambda of: [f"CRL URL {plain(of)}"],
+    "responseTypes": each(lambda of: [identifier(of)]),
+    "preferredAlgorithms": each(headed(lambda of: "preferred")),
+    "sigIdentifier": algorithm("algorithm"),
+    "certIdentifier": algorithm("key"),
+    "contentType": lambda of: [f"content-type {identifier(of)}"],
+    "content": lambda of: [f"content {value(of)}"],
+    "digestAlgorithms": each(algorithm("digest")),
+    "digestAlgorithm": algorithm("digest"),
+    "encapContentInfo": headed(lambda of: f"encapsulated {identifier(of)}"),
+    "format": lambda of: [f"format {identifier(of)}"],
+    "signerInfos": each(headed(lambda of: "signer")),
+    "policy": lambda of: [f"policy {identifier(of)}"],
+    "accuracy": headed(lambda of: "accuracy"),
+    "tsa": lambda of: after("tsa ", members(of)),
+    "statusString": each(lambda of: [f"text {plain(of)}"]),
+    "failInfo": each(lambda of: [f"failure {of}"]),
+    "timeStampToken": headed(lambda of: "token"),
+    "privateKeyAlgorithm": algorithm("algorithm"),
+    "encryptionAlgorithm": algorithm("algorithm"),
+    "keyDerivationFunc": algorithm("derivation"),
+    "encryptionScheme": algorithm("cipher"),
+    "prf": algorithm("function"),
     "revokedCertificates": each(
         headed(lambda of: f"revoked {of['userCertificate']} {of['revocationDate']}")
     ),
@@ -232,12 +283,19 @@ LINES = {
 LINES |= dict.fromkeys(["names", "fullName"], each(members))
 LINES |= dict.fromkeys(["reasons", "onlySomeReasons"], each(lambda of: [f"for {of}"]))
 LINES |= dict.fromkeys(
-    ["extensions", "crlExtensions", "crlEntryExtensions"], each(headed(extension_heading))
+    ["extensions", "crlExtensions", "crlEntryExtensions", "singleRequestExtensions",
+     "requestExtensions", "singleExtensions", "responseExtensions"],
+    each(headed(extension_heading)),
 )
+LINES |= dict.fromkeys(["responseStatus", "certStatus", "status"], "status {}")
+LINES |= dict.fromkeys(["certs", "certificates"], each(headed(lambda of: "certificate")))
+LINES["crls"] = each(headed(lambda of: "list"))
+DIGESTED = ["certificate", "list", "request", "key", "ocsp-request", "ocsp-response", "message",
+            "timestamp"]
 LINES |= {
     key: key + " {}"
     for key in "modulus exponent point p q g public prime a b seed generator order cofactor".split()
-    + [f"{of}-sha{size}" for of in ("certificate", "list", "request", "key") for size in (1, 256)]
+    + [f"{of}-sha{size}" for of in DIGESTED for size in (1, 256)]
     + ["key-bits-sha1", "key-pin-sha256"]
 }
 LINES |= dict.fromkeys(["malformed", "malformedParameters"], "malformed")
@@ -348,7 +406,10 @@ def verdict(of):
     words = [str(of[key]) for key in ("verdict", "place", "offset", "rule", "kind") if key in of]
     words += [f"calls={of['calls']}"] if "calls" in of else []
     words += [quoted(of["endEntity"]["subject"])] if "endEntity" in of else []
-    return [" ".join(words), *([f"ends {of['ends']}"] if "ends" in of else [])]
+    if "ends" not in of:
+        return [" ".join(words)]
+    ends = [str(of[key]) for key in ("ends", "notAfter") if key in of]
+    return [" ".join(words), f"ends {' '.join(ends)}"]
 
 
 # The function that makes the lines of a document, by the command that writes it.

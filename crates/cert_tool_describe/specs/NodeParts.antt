@@ -6,13 +6,13 @@ use Rattle.x509_cert_lists.specs.Oid.Bound.{Bound}
 use Rattle.x509_cert_lists.specs.Der.Shapes.{Shape, Content, Body, tagged, any, either, optional}
 use Rattle.x509_cert_lists.specs.Der.Shapes.{defaulted, nothing, leaf, nested, done, field, only}
 use Rattle.x509_cert_lists.specs.Der.Shapes.{many}
-use Rattle.x509_cert_lists.specs.Der.Shapes.{exactly, few, in_order, rising, sequence}
+use Rattle.x509_cert_lists.specs.Der.Shapes.{exactly, few, in_order, rising, sequence, sequence_of}
 use Rattle.x509_cert_lists.specs.Der.Tags.{leading_octet}
 use Rattle.x509_cert_lists.specs.CertNames.Names.{name, type_and_value, attribute}
 use Rattle.x509_cert_lists.specs.CertNames.Names.{directory_string}
 use Rattle.x509_cert_lists.specs.CertNames.Names.{relative_name}
 use Rattle.cert_tool_lines.specs.CertParts.Grammar.{object_identifier, algorithm_identifier}
-use Rattle.cert_tool_lines.specs.CertParts.Grammar.{public_key_info}
+use Rattle.cert_tool_lines.specs.CertParts.Grammar.{public_key_info, octet_string}
 use Rattle.cert_tool_lines.specs.CertParts.Grammar.{version, validity, time, extension}
 use Rattle.cert_tool_lines.specs.CertParts.Grammar.{extensions, number_of}
 use Rattle.x509_cert_certificates.specs.Certificates.{certificate, tbs_certificate}
@@ -40,6 +40,23 @@ use Rattle.x509_cert_lists.specs.ListGrammar.{cert_req_fields}
 use Rattle.x509_cert_anchors.specs.Anchors.{cert_path_controls_fields}
 use Rattle.x509_cert_anchors.specs.Anchors.{trust_anchor_info_fields}
 use Rattle.x509_cert_anchors.specs.Anchors.{trust_anchor_choice}
+use Rattle.cert_tool_describe.specs.MessageGrammar.{ocsp_request_fields, tbs_request_fields}
+use Rattle.cert_tool_describe.specs.MessageGrammar.{ocsp_version, single_request_fields}
+use Rattle.cert_tool_describe.specs.MessageGrammar.{cert_id_fields, ocsp_signature_fields}
+use Rattle.cert_tool_describe.specs.MessageGrammar.{ocsp_response_fields, response_bytes_fields}
+use Rattle.cert_tool_describe.specs.MessageGrammar.{basic_response_fields, response_data_fields}
+use Rattle.cert_tool_describe.specs.MessageGrammar.{responder_id, single_response_fields}
+use Rattle.cert_tool_describe.specs.MessageGrammar.{cert_status, revoked_info_fields, reason}
+use Rattle.cert_tool_describe.specs.MessageGrammar.{general_time, content_info_fields}
+use Rattle.cert_tool_describe.specs.MessageGrammar.{signed_data_fields, encapsulated_fields}
+use Rattle.cert_tool_describe.specs.MessageGrammar.{certificate_choices, other_format_fields}
+use Rattle.cert_tool_describe.specs.MessageGrammar.{revocation_info_choice, signer_info_fields}
+use Rattle.cert_tool_describe.specs.MessageGrammar.{signer_identifier, issuer_and_serial_fields}
+use Rattle.cert_tool_describe.specs.MessageGrammar.{one_asymmetric_key_fields}
+use Rattle.cert_tool_describe.specs.MessageGrammar.{encrypted_private_key_info_fields}
+use Rattle.cert_tool_describe.specs.MessageGrammar.{time_stamp_resp_fields, status_info_fields}
+use Rattle.cert_tool_describe.specs.MessageGrammar.{free_text, tst_info_fields}
+use Rattle.cert_tool_describe.specs.MessageGrammar.{message_imprint_fields, accuracy_fields}
 use Rattle.cert_tool_describe.specs.declared.parts.Node.{Node}
 use Rattle.cert_tool_describe.specs.declared.parts.Node.TheVariants as nodes
 
@@ -188,6 +205,51 @@ inside_of nodes.UsagePeriod = values private_key_usage_period_fields
 inside_of nodes.Purposes = values (many (object_identifier Bound))
 inside_of nodes.Features = values (many (number_of 16))
 inside_of nodes.DirectoryAttributes = values (many (attribute Bound))
+inside_of nodes.OcspRequest = values (ocsp_request_fields Bound)
+inside_of nodes.TbsRequest = values (tbs_request_fields Bound)
+inside_of nodes.OcspVersion = values (only ocsp_version)
+inside_of nodes.TaggedGeneralName = values (only (general_name Bound))
+inside_of nodes.SingleRequests = values (many (sequence (single_request_fields Bound)))
+inside_of nodes.SingleRequest = values (single_request_fields Bound)
+inside_of nodes.CertId = values (cert_id_fields Bound)
+inside_of nodes.TaggedSignature = values (only (sequence (ocsp_signature_fields Bound)))
+inside_of nodes.OcspSignature = values (ocsp_signature_fields Bound)
+inside_of nodes.TaggedCertificates = values (only (sequence_of (certificate Bound None)))
+inside_of nodes.Certificates = values (many (certificate Bound None))
+inside_of nodes.OcspResponse = values (ocsp_response_fields Bound)
+inside_of nodes.TaggedResponseBytes = values (only (sequence (response_bytes_fields Bound)))
+inside_of nodes.ResponseBytes = values (response_bytes_fields Bound)
+inside_of nodes.BasicResponse = values (basic_response_fields Bound)
+inside_of nodes.ResponseData = values (response_data_fields Bound)
+inside_of nodes.ResponderId = inside_of_shape (responder_id Bound)
+inside_of nodes.TaggedOctets = values (only octet_string)
+inside_of nodes.SingleResponses = values (many (sequence (single_response_fields Bound)))
+inside_of nodes.SingleResponse = values (single_response_fields Bound)
+inside_of nodes.CertStatus = inside_of_shape cert_status
+inside_of nodes.RevokedInfo = values revoked_info_fields
+inside_of nodes.TaggedReason = values (only reason)
+inside_of nodes.TaggedDate = values (only general_time)
+inside_of nodes.Message = values (content_info_fields Bound)
+inside_of nodes.SignedData = values (signed_data_fields Bound)
+inside_of nodes.Algorithms = values (rising (algorithm_identifier Bound))
+inside_of nodes.EncapsulatedContent = values (encapsulated_fields Bound)
+inside_of nodes.CertificateSet = values (rising (certificate_choices Bound))
+inside_of nodes.CertificateChoice = inside_of_shape (certificate_choices Bound)
+inside_of nodes.OtherFormat = values (other_format_fields Bound)
+inside_of nodes.RevocationInfos = values (rising (revocation_info_choice Bound))
+inside_of nodes.RevocationInfo = inside_of_shape (revocation_info_choice Bound)
+inside_of nodes.SignerInfos = values (rising (sequence (signer_info_fields Bound)))
+inside_of nodes.SignerInfo = values (signer_info_fields Bound)
+inside_of nodes.SignerIdentifier = inside_of_shape (signer_identifier Bound)
+inside_of nodes.IssuerAndSerial = values (issuer_and_serial_fields Bound)
+inside_of nodes.Key = values (one_asymmetric_key_fields Bound)
+inside_of nodes.EncryptedKey = values (encrypted_private_key_info_fields Bound)
+inside_of nodes.Timestamp = values (time_stamp_resp_fields Bound)
+inside_of nodes.StatusInfo = values status_info_fields
+inside_of nodes.FreeText = inside_of_shape free_text
+inside_of nodes.TimestampInfo = values (tst_info_fields Bound)
+inside_of nodes.MessageImprint = values (message_imprint_fields Bound)
+inside_of nodes.Accuracy = values accuracy_fields
 inside_of nodes.Leaf = no_parts
 
 -- The abstract value of the code's field.
@@ -275,4 +337,68 @@ names_of nodes.UsagePeriod = codes "notBefore" ∷ codes "notAfter" ∷ []
 names_of nodes.Purposes = codes "a key purpose" ∷ []
 names_of nodes.Features = codes "a feature" ∷ []
 names_of nodes.DirectoryAttributes = codes "an attribute" ∷ []
+names_of nodes.OcspRequest = codes "tbsRequest" ∷ codes "optionalSignature" ∷ []
+names_of nodes.TbsRequest =
+    codes "version" ∷ codes "requestorName" ∷ codes "requestList" ∷ codes "requestExtensions" ∷ []
+names_of nodes.OcspVersion = codes "" ∷ []
+names_of nodes.TaggedGeneralName = codes "" ∷ []
+names_of nodes.SingleRequests = codes "a request" ∷ []
+names_of nodes.SingleRequest = codes "reqCert" ∷ codes "singleRequestExtensions" ∷ []
+names_of nodes.CertId =
+    codes "hashAlgorithm" ∷ codes "issuerNameHash" ∷ codes "issuerKeyHash" ∷ codes "serialNumber"
+    ∷ []
+names_of nodes.TaggedSignature = codes "" ∷ []
+names_of nodes.OcspSignature = codes "signatureAlgorithm" ∷ codes "signature" ∷ codes "certs" ∷ []
+names_of nodes.TaggedCertificates = codes "" ∷ []
+names_of nodes.Certificates = codes "a certificate" ∷ []
+names_of nodes.OcspResponse = codes "responseStatus" ∷ codes "responseBytes" ∷ []
+names_of nodes.TaggedResponseBytes = codes "" ∷ []
+names_of nodes.ResponseBytes = codes "responseType" ∷ codes "response" ∷ []
+names_of nodes.BasicResponse =
+    codes "tbsResponseData" ∷ codes "signatureAlgorithm" ∷ codes "signature" ∷ codes "certs" ∷ []
+names_of nodes.ResponseData =
+    codes "version" ∷ codes "responderID" ∷ codes "producedAt" ∷ codes "responses"
+    ∷ codes "responseExtensions" ∷ []
+names_of nodes.ResponderId = codes "byName" ∷ codes "byKey" ∷ []
+names_of nodes.TaggedOctets = codes "" ∷ []
+names_of nodes.SingleResponses = codes "a response" ∷ []
+names_of nodes.SingleResponse =
+    codes "certID" ∷ codes "certStatus" ∷ codes "thisUpdate" ∷ codes "nextUpdate"
+    ∷ codes "singleExtensions" ∷ []
+names_of nodes.CertStatus = codes "good" ∷ codes "revoked" ∷ codes "unknown" ∷ []
+names_of nodes.RevokedInfo = codes "revocationTime" ∷ codes "revocationReason" ∷ []
+names_of nodes.TaggedReason = codes "" ∷ []
+names_of nodes.TaggedDate = codes "" ∷ []
+names_of nodes.Message = codes "contentType" ∷ codes "content" ∷ []
+names_of nodes.SignedData =
+    codes "version" ∷ codes "digestAlgorithms" ∷ codes "encapContentInfo" ∷ codes "certificates"
+    ∷ codes "crls" ∷ codes "signerInfos" ∷ []
+names_of nodes.Algorithms = codes "an algorithm" ∷ []
+names_of nodes.EncapsulatedContent = codes "eContentType" ∷ codes "eContent" ∷ []
+names_of nodes.CertificateSet = codes "a certificate" ∷ []
+names_of nodes.CertificateChoice =
+    codes "certificate" ∷ codes "extendedCertificate" ∷ codes "v1AttrCert" ∷ codes "v2AttrCert"
+    ∷ codes "other" ∷ []
+names_of nodes.OtherFormat = codes "format" ∷ codes "value" ∷ []
+names_of nodes.RevocationInfos = codes "a CRL" ∷ []
+names_of nodes.RevocationInfo = codes "crl" ∷ codes "other" ∷ []
+names_of nodes.SignerInfos = codes "a signer" ∷ []
+names_of nodes.SignerInfo =
+    codes "version" ∷ codes "sid" ∷ codes "digestAlgorithm" ∷ codes "signedAttrs"
+    ∷ codes "signatureAlgorithm" ∷ codes "signature" ∷ codes "unsignedAttrs" ∷ []
+names_of nodes.SignerIdentifier = codes "issuerAndSerialNumber" ∷ codes "subjectKeyIdentifier" ∷ []
+names_of nodes.IssuerAndSerial = codes "issuer" ∷ codes "serialNumber" ∷ []
+names_of nodes.Key =
+    codes "version" ∷ codes "privateKeyAlgorithm" ∷ codes "privateKey" ∷ codes "attributes"
+    ∷ codes "publicKey" ∷ []
+names_of nodes.EncryptedKey = codes "encryptionAlgorithm" ∷ codes "encryptedData" ∷ []
+names_of nodes.Timestamp = codes "status" ∷ codes "timeStampToken" ∷ []
+names_of nodes.StatusInfo = codes "status" ∷ codes "statusString" ∷ codes "failInfo" ∷ []
+names_of nodes.FreeText = codes "a text" ∷ []
+names_of nodes.TimestampInfo =
+    codes "version" ∷ codes "policy" ∷ codes "messageImprint" ∷ codes "serialNumber"
+    ∷ codes "genTime" ∷ codes "accuracy" ∷ codes "ordering" ∷ codes "nonce" ∷ codes "tsa"
+    ∷ codes "extensions" ∷ []
+names_of nodes.MessageImprint = codes "hashAlgorithm" ∷ codes "hashedMessage" ∷ []
+names_of nodes.Accuracy = codes "seconds" ∷ codes "millis" ∷ codes "micros" ∷ []
 names_of nodes.Leaf = []

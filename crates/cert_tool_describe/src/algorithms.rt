@@ -133,7 +133,7 @@ fn add_fields(lines: &mut Lines, fields: &[Any]) {
     add_number(lines, "trailer", "trailerField", field(fields, 3), 1);
 }
 
-// Adds a line with the parameters as a value of any type.
+/// Adds a line with the parameters as a value of any type.
 pub fn add_parameters(lines: &mut Lines, parameters: &Any) {
     lines.row("parameters", "parameters");
     lines.brace();
@@ -141,7 +141,7 @@ pub fn add_parameters(lines: &mut Lines, parameters: &Any) {
     lines.end_brace();
 }
 
-// Adds the lines of malformed parameters.
+/// Adds the lines of malformed parameters.
 pub fn add_malformed_parameters(lines: &mut Lines, parameters: &Any, kind: ErrorKind) {
     lines.malformed("malformedParameters", kind);
     add_parameters(lines, parameters);
@@ -173,8 +173,8 @@ fn add_parameters_of(lines: &mut Lines, name: &str, parameters: &Any) {
     }
 }
 
-// Adds the members of an algorithm.
-pub fn add_members(lines: &mut Lines, algorithm: &AlgorithmIdentifier) {
+/// Adds the members of an algorithm.
+pub fn add_algorithm_members(lines: &mut Lines, algorithm: &AlgorithmIdentifier) {
     lines.members_of(&algorithm.oid);
     if let Some(parameters) = &algorithm.parameters {
         let name = known_name(algorithm.oid.as_bytes()).unwrap_or("");
@@ -182,7 +182,7 @@ pub fn add_members(lines: &mut Lines, algorithm: &AlgorithmIdentifier) {
     }
 }
 
-// Adds a line with the bits of a signature or a key, and the number of unused bits if it isn't 0.
+/// Adds a line with the bits of a signature or a key, and the number of unused bits if it isn't 0.
 pub fn add_bit_row(lines: &mut Lines, word: &str, key: &str, bits: &BitString) {
     lines.octets_row(word, key, bits.raw_bytes());
     if bits.has_unused_bits() {
@@ -190,14 +190,14 @@ pub fn add_bit_row(lines: &mut Lines, word: &str, key: &str, bits: &BitString) {
     }
 }
 
-// Adds the lines of an algorithm.
+/// Adds the lines of an algorithm.
 pub fn add_algorithm(lines: &mut Lines, word: &str, key: &str, algorithm: &AlgorithmIdentifier) {
     lines.node(word, key);
-    add_members(lines, algorithm);
+    add_algorithm_members(lines, algorithm);
     lines.close();
 }
 
-// Adds the lines of a signature: its algorithm and its bits.
+/// Adds the lines of a signature: its algorithm and its bits.
 pub fn add_signature(lines: &mut Lines, algorithm: &AlgorithmIdentifier, signature: &BitString) {
     add_algorithm(lines, "signature", "signatureAlgorithm", algorithm);
     add_bit_row(lines, "  bits", "signatureValue", signature);

@@ -41,14 +41,14 @@ pub fn parts_of_content(kind: Kind) -> &'static [Part] {
     }
 }
 
-/// Returns why valid content of an extension of this kind isn't supported; empty if the content
-/// isn't valid.
+// Returns why valid content isn't supported; empty if the content isn't valid. `root` is the
+// content as a single field.
 pub fn unsupported_content(
     alloc: Global,
-    kind: Kind,
+    root: &'static [Part],
     octets: &[u8],
     error: &Error,
 ) -> Result<&'static str, AllocError> {
-    let way = path_to(alloc, octets, parts_of_content(kind), error)?;
+    let way = path_to(alloc, octets, root, error)?;
     Ok(way.unread(octets, error.kind))
 }

@@ -1,8 +1,9 @@
 //! Prints the contents of extensions, by object identifier.
 
-use crate::content_parts::unsupported_content;
+use crate::content_parts::{parts_of_content, unsupported_content};
 use crate::described::add_content;
 use crate::other_contents::add_other_content;
+use crate::parts::Part;
 use crate::timestamps::{add_timestamps, timestamps_fault};
 use crate::values::{add_value_of, read_members};
 use cert_tool_lines::Lines;
@@ -29,9 +30,10 @@ fn add_octets(lines: &mut Lines, octets: &[u8]) {
     lines.octets_row("octets", "octets", octets);
 }
 
-// Adds that content is malformed, or that it is valid but isn't supported.
-fn add_fault(lines: &mut Lines, kind: Kind, octets: &[u8], error: &Error) {
-    match unsupported_content(lines.alloc, kind, octets, error) {
+/// Adds that content is malformed, or that it is valid but isn't supported, and its bytes. `root`
+/// is the content as a single field.
+pub fn add_undecoded(lines: &mut Lines, root: &'static [Part], octets: &[u8], error: &Error) {
+    match unsupported_content(lines.alloc, root, octets, error) {
         Ok("") => lines.malformed("malformed", error.kind),
         Ok(words) => lines.text_row("not read here:", "unread", words),
         Err(_) => lines.fail(),
@@ -114,20 +116,26 @@ pub fn content_fault(alloc: Global, extension: &Extension) -> Option<Error> {
     }
 }
 
-// Adds the lines of an extension.
-fn add_extension(lines: &mut Lines, extension: &Extension) {
+/// Begins an extension: adds its object identifier, and whether it is critical.
+pub fn begin_extension(lines: &mut Lines, extension: &Extension) {
     lines.entry("extension");
     lines.members_of(&extension.extn_id);
     lines.mark("critical", "critical", extension.critical);
+}
+
+/// Adds the lines of an extension.
+pub fn add_extension(lines: &mut Lines, extension: &Extension) {
+    begin_extension(lines, extension);
     if let Some(error) = add_content_of(lines, extension) {
         if let Some(kind) = Kind::of(&extension.extn_id) {
-            add_fault(lines, kind, extension.extn_value.as_bytes(), &error);
+            let root = parts_of_content(kind);
+            add_undecoded(lines, root, extension.extn_value.as_bytes(), &error);
         }
     }
     lines.close();
 }
 
-// Adds the lines of extensions, in order.
+/// Adds the lines of extensions, in order.
 pub fn add_extensions(lines: &mut Lines, key: &str, extensions: &[Extension]) {
     lines.list(key);
     for extension in extensions {

@@ -29,8 +29,8 @@ fn days_of(month: u8, year: u32) -> u8 {
     }
 }
 
-// Returns whether bytes are month, day, hour, minute and second of a year, two digits each, and Z.
-fn is_moment(octets: &[u8], year: u32) -> bool {
+// Returns whether bytes begin with month, day, hour, minute and second of a year, two digits each.
+fn begins_in(octets: &[u8], year: u32) -> bool {
     let Some(month) = two(octets, 0) else {
         return false;
     };
@@ -39,8 +39,42 @@ fn is_moment(octets: &[u8], year: u32) -> bool {
         && encodes(octets, 4, 0, 23)
         && encodes(octets, 6, 0, 59)
         && encodes(octets, 8, 0, 59)
-        && octets.len() == 11
-        && octets.last() == Some(&b'Z')
+}
+
+// Returns whether bytes are month, day, hour, minute and second of a year, two digits each, and Z.
+fn is_moment(octets: &[u8], year: u32) -> bool {
+    begins_in(octets, year) && octets.len() == 11 && octets.last() == Some(&b'Z')
+}
+
+// Returns the year at the beginning of the content of a GeneralizedTime, and the bytes after it.
+fn year_of(content: &[u8]) -> Option<(u32, &[u8])> {
+    match (content, two(content, 0), two(content, 2)) {
+        ([_, _, _, _, rest @ ..], Some(century), Some(year)) => {
+            Some((u32::from(century) * 100 + u32::from(year), rest))
+        }
+        _ => None,
+    }
+}
+
+// Returns whether bytes are digits.
+fn are_digits(octets: &[u8]) -> bool {
+    for octet in octets {
+        if !octet.is_ascii_digit() {
+            return false;
+        }
+    }
+    true
+}
+
+/// Returns whether the content of a GeneralizedTime is a date from 1970 on with a fraction of a
+/// second, without trailing zeros (X.690 11.7).
+pub fn has_fraction(content: &[u8]) -> bool {
+    match (year_of(content), content.get(14..)) {
+        (Some((year, rest)), Some([b'.', digits @ .., b'1'..=b'9', b'Z'])) => {
+            year >= 1970 && begins_in(rest, year) && are_digits(digits)
+        }
+        _ => false,
+    }
 }
 
 /// Returns whether the content of a UTCTime is a date from 1950 to 1969 (RFC 5280 4.1.2.5.1).
@@ -53,11 +87,8 @@ pub fn is_early_utc(content: &[u8]) -> bool {
 
 /// Returns whether the content of a GeneralizedTime is a date before 1970.
 pub fn is_early_generalized(content: &[u8]) -> bool {
-    match (content, two(content, 0), two(content, 2)) {
-        ([_, _, _, _, rest @ ..], Some(century), Some(year)) => {
-            let year = u32::from(century) * 100 + u32::from(year);
-            year < 1970 && is_moment(rest, year)
-        }
-        _ => false,
+    match year_of(content) {
+        Some((year, rest)) => year < 1970 && is_moment(rest, year),
+        None => false,
     }
 }

@@ -16,7 +16,7 @@ pub trait Describe: Sized {
     fn describe(&self, lines: &mut Lines);
 }
 
-// Adds the lines of encoded content, or returns the error if it is malformed.
+/// Adds the lines of encoded content, or returns the error if it is malformed.
 pub fn add_content<T: Describe + Drop>(lines: &mut Lines, octets: &[u8]) -> Option<Error> {
     match T::read_content(lines.alloc, octets) {
         Ok(content) => {
@@ -27,7 +27,7 @@ pub fn add_content<T: Describe + Drop>(lines: &mut Lines, octets: &[u8]) -> Opti
     }
 }
 
-/// A value that a file contains: a certificate, a CRL or a CSR.
+/// A value that a file contains, such as a certificate.
 pub trait DescribeFile: Sized {
     /// The bytes are the encoding of a value of the type.
     ghost is_spelled: { List ℕ → Type 0 };

@@ -15,9 +15,8 @@ use std::alloc::Global;
 use x509_cert_certificates::{CertificateInner, TbsCertificateInner};
 use x509_cert_lists::der::{Error, ErrorKind};
 
-// Adds a line with the kind of the value and its version.
-pub fn add_kind(lines: &mut Lines, kind: &str, version: Version) {
-    lines.text_row("", "kind", kind);
+// Adds a line with the version of the value.
+pub fn add_version(lines: &mut Lines, version: Version) {
     lines.count_row(
         "version",
         "version",
@@ -48,7 +47,7 @@ fn add_parties(lines: &mut Lines, signed: &TbsCertificateInner<Raw>) {
 
 // Adds the lines of the TBSCertificate.
 fn add_signed(lines: &mut Lines, signed: &TbsCertificateInner<Raw>) {
-    add_kind(lines, "certificate", signed.version());
+    add_version(lines, signed.version());
     add_parties(lines, signed);
     add_key(lines, signed.subject_public_key_info());
     let issuer = signed.issuer_unique_id();
@@ -60,6 +59,20 @@ fn add_signed(lines: &mut Lines, signed: &TbsCertificateInner<Raw>) {
     }
 }
 
+// Adds the lines of a certificate.
+fn add_members(lines: &mut Lines, certificate: &CertificateInner<Raw>) {
+    add_signed(lines, certificate.tbs_certificate());
+    let algorithm = certificate.signature_algorithm();
+    add_signature(lines, algorithm, certificate.signature());
+}
+
+/// Adds a certificate that is an item of an array.
+pub fn add_certificate_item(lines: &mut Lines, certificate: &CertificateInner<Raw>) {
+    lines.entry("certificate");
+    add_members(lines, certificate);
+    lines.close();
+}
+
 impl DescribeFile for CertificateInner<Raw> {
     ghost is_spelled = { IsCertificate };
 
@@ -68,11 +81,10 @@ impl DescribeFile for CertificateInner<Raw> {
     }
 
     fn describe_file(&self, lines: &mut Lines, octets: &[u8]) {
-        let signed = self.tbs_certificate();
-        add_signed(lines, signed);
-        add_signature(lines, self.signature_algorithm(), self.signature());
+        lines.text_row("", "kind", "certificate");
+        add_members(lines, self);
         add_digests(lines, ["certificate-sha1", "certificate-sha256"], octets);
-        add_key_digests(lines, signed.subject_public_key_info());
+        add_key_digests(lines, self.tbs_certificate().subject_public_key_info());
     }
 }
 

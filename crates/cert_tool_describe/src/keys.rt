@@ -1,10 +1,10 @@
 //! Prints keys and digests.
 
-use crate::algorithms::{add_bit_row, add_malformed_parameters, add_members as add_algorithm};
+use crate::algorithms::{add_algorithm_members, add_bit_row, add_malformed_parameters};
 use crate::curves::curve_bits;
 use crate::values::{add_value, inside, list_in, noted, read_members};
 use base64::engine::general_purpose::STANDARD;
-use cert_tool_lines::cert_parts::SubjectPublicKeyInfo;
+use cert_tool_lines::cert_parts::{AlgorithmIdentifier, SubjectPublicKeyInfo};
 use cert_tool_lines::types::{Any, BitString, Uint};
 use cert_tool_lines::{Lines, known_name};
 use sha1::Sha1;
@@ -13,8 +13,8 @@ use x509_cert_lists::der::making::leaf_from_der;
 use x509_cert_lists::der::{ErrorKind, Tag, ToDer};
 use x509_cert_lists::oid::ObjectIdentifier;
 
-// Returns the number of bits of a big-endian number.
-fn bit_len(octets: &[u8]) -> usize {
+/// Returns the number of bits of a big-endian number.
+pub fn bit_len(octets: &[u8]) -> usize {
     match octets {
         [] => 0,
         [first, ..] => {
@@ -24,8 +24,8 @@ fn bit_len(octets: &[u8]) -> usize {
     }
 }
 
-// Adds a line with a number of bits.
-fn add_bits(lines: &mut Lines, bits: u64) {
+/// Adds a line with a number of bits.
+pub fn add_bits(lines: &mut Lines, bits: u64) {
     lines.count_row("", "bits", bits);
     lines.word("bits");
 }
@@ -228,14 +228,6 @@ fn add_curve_of(lines: &mut Lines, parameters: &Any) {
     add_curve(lines, parameters, values.as_slice());
 }
 
-// Adds the lines of an elliptic curve key.
-fn add_point(lines: &mut Lines, key: &SubjectPublicKeyInfo) {
-    if let Some(parameters) = &key.algorithm.parameters {
-        add_curve_of(lines, parameters);
-    }
-    add_bit_row(lines, "point", "point", &key.subject_public_key);
-}
-
 // Adds the lines of the parameters of a DSA key: p, q and g (RFC 3279 2.3.2).
 fn add_group(lines: &mut Lines, parameters: &Any) {
     match list_in::<Uint>(lines.alloc, parameters) {
@@ -252,12 +244,21 @@ fn add_group(lines: &mut Lines, parameters: &Any) {
     }
 }
 
-// Adds the lines of a DSA key.
-fn add_dsa(lines: &mut Lines, key: &SubjectPublicKeyInfo) {
-    if let Some(parameters) = &key.algorithm.parameters {
-        add_group(lines, parameters);
+/// Adds the lines of the parameters of a key: its curve (RFC 3279 2.3.5), or the numbers of DSA
+/// (2.3.2).
+pub fn add_key_parameters(lines: &mut Lines, algorithm: &AlgorithmIdentifier) {
+    let Some(parameters) = &algorithm.parameters else {
+        return;
+    };
+    match known_name(algorithm.oid.as_bytes()).unwrap_or("") {
+        "id-ecPublicKey" => add_curve_of(lines, parameters),
+        "id-dsa" => add_group(lines, parameters),
+        _ => {}
     }
-    let bits = &key.subject_public_key;
+}
+
+// Adds a line with the number of a DSA key.
+fn add_dsa(lines: &mut Lines, bits: &BitString) {
     match leaf_from_der::<Uint>(lines.alloc, bits.raw_bytes()) {
         Ok(number) if bits.unused_bits() == 0 => add_natural(lines, "public", number.as_bytes()),
         Ok(_) => add_malformed_key(lines, bits, ErrorKind::Failed),
@@ -287,10 +288,11 @@ fn add_rsa(lines: &mut Lines, bits: &BitString) {
 
 // Adds the lines of the key's bits, by the name of its algorithm.
 fn add_key_bits(lines: &mut Lines, key: &SubjectPublicKeyInfo) {
+    add_key_parameters(lines, &key.algorithm);
     match known_name(key.algorithm.oid.as_bytes()).unwrap_or("") {
         "rsaEncryption" | "id-RSASSA-PSS" => add_rsa(lines, &key.subject_public_key),
-        "id-dsa" => add_dsa(lines, key),
-        "id-ecPublicKey" => add_point(lines, key),
+        "id-dsa" => add_dsa(lines, &key.subject_public_key),
+        "id-ecPublicKey" => add_bit_row(lines, "point", "point", &key.subject_public_key),
         "id-X25519" | "id-X448" | "id-Ed25519" | "id-Ed448" => {
             add_bits(lines, key.subject_public_key.bit_len() as u64);
             add_bit_row(lines, "octets", "octets", &key.subject_public_key);
@@ -302,12 +304,12 @@ fn add_key_bits(lines: &mut Lines, key: &SubjectPublicKeyInfo) {
 // Adds the lines of a key.
 pub fn add_key(lines: &mut Lines, key: &SubjectPublicKeyInfo) {
     lines.node("key", "subjectPublicKeyInfo");
-    add_algorithm(lines, &key.algorithm);
+    add_algorithm_members(lines, &key.algorithm);
     add_key_bits(lines, key);
     lines.close();
 }
 
-// Adds the lines of the digests of bytes, if digests are printed.
+/// Adds the lines of the digests of bytes, if digests are printed.
 pub fn add_digests(lines: &mut Lines, names: [&str; 2], octets: &[u8]) {
     if !lines.has_digests {
         return;

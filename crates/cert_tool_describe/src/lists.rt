@@ -6,7 +6,7 @@ ghost use Rattle.cert_tool_describe.specs.Files.{IsList};
 use crate::algorithms::{add_algorithm, add_signature};
 use crate::contents::add_extensions;
 use crate::described::{Describe, DescribeFile, add_file};
-use crate::description::add_kind;
+use crate::description::add_version;
 use crate::keys::add_digests;
 use crate::values::{add_name, read};
 use cert_tool_lines::Lines;
@@ -28,8 +28,8 @@ impl Describe for CrlNumber {
     }
 }
 
-// Returns the name of a reason (RFC 5280 5.3.1).
-fn reason_name(reason: CrlReason) -> &'static str {
+/// Returns the name of a reason (RFC 5280 5.3.1).
+pub fn reason_name(reason: CrlReason) -> &'static str {
     match reason {
         CrlReason::Unspecified => "unspecified",
         CrlReason::KeyCompromise => "keyCompromise",
@@ -78,7 +78,7 @@ fn add_entries(lines: &mut Lines, entries: &[RevokedCert<Raw>]) {
 
 // Adds the lines of the TBSCertList.
 fn add_signed(lines: &mut Lines, signed: &TbsCertList<Raw>) {
-    add_kind(lines, "list", signed.version);
+    add_version(lines, signed.version);
     add_algorithm(lines, "algorithm", "signature", &signed.signature);
     add_name(lines, "issuer", "issuer", &signed.issuer);
     lines.date_row("this-update", "thisUpdate", &signed.this_update);
@@ -93,6 +93,19 @@ fn add_signed(lines: &mut Lines, signed: &TbsCertList<Raw>) {
     }
 }
 
+// Adds the lines of a CRL.
+fn add_members(lines: &mut Lines, list: &CertificateList<Raw>) {
+    add_signed(lines, &list.tbs_cert_list);
+    add_signature(lines, &list.signature_algorithm, &list.signature);
+}
+
+/// Adds a CRL that is an item of an array.
+pub fn add_list_item(lines: &mut Lines, list: &CertificateList<Raw>) {
+    lines.entry("list");
+    add_members(lines, list);
+    lines.close();
+}
+
 impl DescribeFile for CertificateList<Raw> {
     ghost is_spelled = { IsList };
 
@@ -101,8 +114,8 @@ impl DescribeFile for CertificateList<Raw> {
     }
 
     fn describe_file(&self, lines: &mut Lines, octets: &[u8]) {
-        add_signed(lines, &self.tbs_cert_list);
-        add_signature(lines, &self.signature_algorithm, &self.signature);
+        lines.text_row("", "kind", "list");
+        add_members(lines, self);
         add_digests(lines, ["list-sha1", "list-sha256"], octets);
     }
 }

@@ -1,5 +1,7 @@
-//! The fields of certificates, CRLs, CSRs, trust anchors and contents of extensions, with the names
-//! that their standards give them (RFC 5280 4.1, 4.2, 5.1, 5.2, RFC 2986 4, RFC 5914 2).
+//! The fields of certificates, CRLs, CSRs, trust anchors and contents of extensions, of OCSP,
+//! signed messages, private keys and timestamps, with the names that their standards give them (RFC
+//! 5280 4.1, 4.2, 5.1, 5.2, RFC 2986 4, RFC 5914 2, RFC 6960 4, RFC 5652 3, 5, 10.2, RFC 5958 2, 3,
+//! RFC 3161 2.4.2).
 //!
 //! The tag of a field, whether it is optional, and what is inside it are those of the shape that
 //! the decoder uses. The contract of `parts_of` says so.
@@ -70,6 +72,51 @@ pub enum Node {
     Purposes,
     Features,
     DirectoryAttributes,
+    OcspRequest,
+    TbsRequest,
+    OcspVersion,
+    TaggedGeneralName,
+    SingleRequests,
+    SingleRequest,
+    CertId,
+    TaggedSignature,
+    OcspSignature,
+    TaggedCertificates,
+    Certificates,
+    OcspResponse,
+    TaggedResponseBytes,
+    ResponseBytes,
+    BasicResponse,
+    ResponseData,
+    ResponderId,
+    TaggedOctets,
+    SingleResponses,
+    SingleResponse,
+    CertStatus,
+    RevokedInfo,
+    TaggedReason,
+    TaggedDate,
+    Message,
+    SignedData,
+    Algorithms,
+    EncapsulatedContent,
+    CertificateSet,
+    CertificateChoice,
+    OtherFormat,
+    RevocationInfos,
+    RevocationInfo,
+    SignerInfos,
+    SignerInfo,
+    SignerIdentifier,
+    IssuerAndSerial,
+    Key,
+    EncryptedKey,
+    Timestamp,
+    StatusInfo,
+    FreeText,
+    TimestampInfo,
+    MessageImprint,
+    Accuracy,
     Leaf,
 }
 
@@ -307,6 +354,215 @@ const USAGE_PERIOD: [Part; 2] = [
     (Some(0x81), true, "notAfter", Node::Leaf),
 ];
 
+const OCSP_REQUEST: [Part; 2] = [
+    (Some(0x30), false, "tbsRequest", Node::TbsRequest),
+    (Some(0xa0), true, "optionalSignature", Node::TaggedSignature),
+];
+
+const TBS_REQUEST: [Part; 4] = [
+    (Some(0xa0), true, "version", Node::OcspVersion),
+    (Some(0xa1), true, "requestorName", Node::TaggedGeneralName),
+    (Some(0x30), false, "requestList", Node::SingleRequests),
+    (
+        Some(0xa2),
+        true,
+        "requestExtensions",
+        Node::TaggedExtensions,
+    ),
+];
+
+const SINGLE_REQUEST: [Part; 2] = [
+    (Some(0x30), false, "reqCert", Node::CertId),
+    (
+        Some(0xa0),
+        true,
+        "singleRequestExtensions",
+        Node::TaggedExtensions,
+    ),
+];
+
+const CERT_ID: [Part; 4] = [
+    (Some(0x30), false, "hashAlgorithm", Node::Algorithm),
+    (Some(0x04), false, "issuerNameHash", Node::Leaf),
+    (Some(0x04), false, "issuerKeyHash", Node::Leaf),
+    (Some(0x02), false, "serialNumber", Node::Leaf),
+];
+
+const OCSP_SIGNATURE: [Part; 3] = [
+    (Some(0x30), false, "signatureAlgorithm", Node::Algorithm),
+    (Some(0x03), false, "signature", Node::Leaf),
+    (Some(0xa0), true, "certs", Node::TaggedCertificates),
+];
+
+const OCSP_RESPONSE: [Part; 2] = [
+    (Some(0x0a), false, "responseStatus", Node::Leaf),
+    (Some(0xa0), true, "responseBytes", Node::TaggedResponseBytes),
+];
+
+const RESPONSE_BYTES: [Part; 2] = [
+    (Some(0x06), false, "responseType", Node::Leaf),
+    (Some(0x04), false, "response", Node::Leaf),
+];
+
+const BASIC_RESPONSE: [Part; 4] = [
+    (Some(0x30), false, "tbsResponseData", Node::ResponseData),
+    (Some(0x30), false, "signatureAlgorithm", Node::Algorithm),
+    (Some(0x03), false, "signature", Node::Leaf),
+    (Some(0xa0), true, "certs", Node::TaggedCertificates),
+];
+
+const RESPONSE_DATA: [Part; 5] = [
+    (Some(0xa0), true, "version", Node::OcspVersion),
+    (None, false, "responderID", Node::ResponderId),
+    (Some(0x18), false, "producedAt", Node::Leaf),
+    (Some(0x30), false, "responses", Node::SingleResponses),
+    (
+        Some(0xa1),
+        true,
+        "responseExtensions",
+        Node::TaggedExtensions,
+    ),
+];
+
+const RESPONDER_ID: [Part; 2] = [
+    (Some(0xa1), false, "byName", Node::TaggedName),
+    (Some(0xa2), false, "byKey", Node::TaggedOctets),
+];
+
+const SINGLE_RESPONSE: [Part; 5] = [
+    (Some(0x30), false, "certID", Node::CertId),
+    (None, false, "certStatus", Node::CertStatus),
+    (Some(0x18), false, "thisUpdate", Node::Leaf),
+    (Some(0xa0), true, "nextUpdate", Node::TaggedDate),
+    (Some(0xa1), true, "singleExtensions", Node::TaggedExtensions),
+];
+
+const CERT_STATUS: [Part; 3] = [
+    (Some(0x80), false, "good", Node::Leaf),
+    (Some(0xa1), false, "revoked", Node::RevokedInfo),
+    (Some(0x82), false, "unknown", Node::Leaf),
+];
+
+const REVOKED_INFO: [Part; 2] = [
+    (Some(0x18), false, "revocationTime", Node::Leaf),
+    (Some(0xa0), true, "revocationReason", Node::TaggedReason),
+];
+
+const MESSAGE: [Part; 2] = [
+    (Some(0x06), false, "contentType", Node::Leaf),
+    (Some(0xa0), false, "content", Node::TaggedValue),
+];
+
+const SIGNED_DATA: [Part; 6] = [
+    (Some(0x02), false, "version", Node::Leaf),
+    (Some(0x31), false, "digestAlgorithms", Node::Algorithms),
+    (
+        Some(0x30),
+        false,
+        "encapContentInfo",
+        Node::EncapsulatedContent,
+    ),
+    (Some(0xa0), true, "certificates", Node::CertificateSet),
+    (Some(0xa1), true, "crls", Node::RevocationInfos),
+    (Some(0x31), false, "signerInfos", Node::SignerInfos),
+];
+
+const ENCAPSULATED_CONTENT: [Part; 2] = [
+    (Some(0x06), false, "eContentType", Node::Leaf),
+    (Some(0xa0), true, "eContent", Node::TaggedOctets),
+];
+
+const CERTIFICATE_CHOICE: [Part; 5] = [
+    (Some(0x30), false, "certificate", Node::Certificate),
+    (Some(0xa0), false, "extendedCertificate", Node::Leaf),
+    (Some(0xa1), false, "v1AttrCert", Node::Leaf),
+    (Some(0xa2), false, "v2AttrCert", Node::Leaf),
+    (Some(0xa3), false, "other", Node::OtherFormat),
+];
+
+const OTHER_FORMAT: [Part; 2] = [
+    (Some(0x06), false, "format", Node::Leaf),
+    (None, false, "value", Node::Leaf),
+];
+
+const REVOCATION_INFO: [Part; 2] = [
+    (Some(0x30), false, "crl", Node::List),
+    (Some(0xa1), false, "other", Node::OtherFormat),
+];
+
+const SIGNER_INFO: [Part; 7] = [
+    (Some(0x02), false, "version", Node::Leaf),
+    (None, false, "sid", Node::SignerIdentifier),
+    (Some(0x30), false, "digestAlgorithm", Node::Algorithm),
+    (Some(0xa0), true, "signedAttrs", Node::Attributes),
+    (Some(0x30), false, "signatureAlgorithm", Node::Algorithm),
+    (Some(0x04), false, "signature", Node::Leaf),
+    (Some(0xa1), true, "unsignedAttrs", Node::Attributes),
+];
+
+const SIGNER_IDENTIFIER: [Part; 2] = [
+    (
+        Some(0x30),
+        false,
+        "issuerAndSerialNumber",
+        Node::IssuerAndSerial,
+    ),
+    (Some(0x80), false, "subjectKeyIdentifier", Node::Leaf),
+];
+
+const ISSUER_AND_SERIAL: [Part; 2] = [
+    (Some(0x30), false, "issuer", Node::Name),
+    (Some(0x02), false, "serialNumber", Node::Leaf),
+];
+
+const KEY: [Part; 5] = [
+    (Some(0x02), false, "version", Node::Leaf),
+    (Some(0x30), false, "privateKeyAlgorithm", Node::Algorithm),
+    (Some(0x04), false, "privateKey", Node::Leaf),
+    (Some(0xa0), true, "attributes", Node::Attributes),
+    (Some(0x81), true, "publicKey", Node::Leaf),
+];
+
+const ENCRYPTED_KEY: [Part; 2] = [
+    (Some(0x30), false, "encryptionAlgorithm", Node::Algorithm),
+    (Some(0x04), false, "encryptedData", Node::Leaf),
+];
+
+const TIMESTAMP: [Part; 2] = [
+    (Some(0x30), false, "status", Node::StatusInfo),
+    (Some(0x30), true, "timeStampToken", Node::Message),
+];
+
+const STATUS_INFO: [Part; 3] = [
+    (Some(0x02), false, "status", Node::Leaf),
+    (Some(0x30), true, "statusString", Node::FreeText),
+    (Some(0x03), true, "failInfo", Node::Leaf),
+];
+
+const TIMESTAMP_INFO: [Part; 10] = [
+    (Some(0x02), false, "version", Node::Leaf),
+    (Some(0x06), false, "policy", Node::Leaf),
+    (Some(0x30), false, "messageImprint", Node::MessageImprint),
+    (Some(0x02), false, "serialNumber", Node::Leaf),
+    (Some(0x18), false, "genTime", Node::Leaf),
+    (Some(0x30), true, "accuracy", Node::Accuracy),
+    (Some(0x01), true, "ordering", Node::Leaf),
+    (Some(0x02), true, "nonce", Node::Leaf),
+    (Some(0xa0), true, "tsa", Node::TaggedGeneralName),
+    (Some(0xa1), true, "extensions", Node::Extensions),
+];
+
+const MESSAGE_IMPRINT: [Part; 2] = [
+    (Some(0x30), false, "hashAlgorithm", Node::Algorithm),
+    (Some(0x04), false, "hashedMessage", Node::Leaf),
+];
+
+const ACCURACY: [Part; 3] = [
+    (Some(0x02), true, "seconds", Node::Leaf),
+    (Some(0x80), true, "millis", Node::Leaf),
+    (Some(0x81), true, "micros", Node::Leaf),
+];
+
 // Returns the fields inside a value, in order; for a list, the field that each member is.
 pub fn parts_of(node: Node) -> &'static [Part]
     ensures names { map (λ p. p.2.now) result.now ≡ names_of node }
@@ -371,6 +627,51 @@ pub fn parts_of(node: Node) -> &'static [Part]
         Node::Purposes => &[(Some(0x06), false, "a key purpose", Node::Leaf)],
         Node::Features => &[(Some(0x02), false, "a feature", Node::Leaf)],
         Node::DirectoryAttributes => &[(Some(0x30), false, "an attribute", Node::Attribute)],
+        Node::OcspRequest => &OCSP_REQUEST,
+        Node::TbsRequest => &TBS_REQUEST,
+        Node::OcspVersion => &[(Some(0x02), false, "", Node::Leaf)],
+        Node::TaggedGeneralName => &[(None, false, "", Node::GeneralName)],
+        Node::SingleRequests => &[(Some(0x30), false, "a request", Node::SingleRequest)],
+        Node::SingleRequest => &SINGLE_REQUEST,
+        Node::CertId => &CERT_ID,
+        Node::TaggedSignature => &[(Some(0x30), false, "", Node::OcspSignature)],
+        Node::OcspSignature => &OCSP_SIGNATURE,
+        Node::TaggedCertificates => &[(Some(0x30), false, "", Node::Certificates)],
+        Node::Certificates => &[(Some(0x30), false, "a certificate", Node::Certificate)],
+        Node::OcspResponse => &OCSP_RESPONSE,
+        Node::TaggedResponseBytes => &[(Some(0x30), false, "", Node::ResponseBytes)],
+        Node::ResponseBytes => &RESPONSE_BYTES,
+        Node::BasicResponse => &BASIC_RESPONSE,
+        Node::ResponseData => &RESPONSE_DATA,
+        Node::ResponderId => &RESPONDER_ID,
+        Node::TaggedOctets => &[(Some(0x04), false, "", Node::Leaf)],
+        Node::SingleResponses => &[(Some(0x30), false, "a response", Node::SingleResponse)],
+        Node::SingleResponse => &SINGLE_RESPONSE,
+        Node::CertStatus => &CERT_STATUS,
+        Node::RevokedInfo => &REVOKED_INFO,
+        Node::TaggedReason => &[(Some(0x0a), false, "", Node::Leaf)],
+        Node::TaggedDate => &[(Some(0x18), false, "", Node::Leaf)],
+        Node::Message => &MESSAGE,
+        Node::SignedData => &SIGNED_DATA,
+        Node::Algorithms => &[(Some(0x30), false, "an algorithm", Node::Algorithm)],
+        Node::EncapsulatedContent => &ENCAPSULATED_CONTENT,
+        Node::CertificateSet => &[(None, false, "a certificate", Node::CertificateChoice)],
+        Node::CertificateChoice => &CERTIFICATE_CHOICE,
+        Node::OtherFormat => &OTHER_FORMAT,
+        Node::RevocationInfos => &[(None, false, "a CRL", Node::RevocationInfo)],
+        Node::RevocationInfo => &REVOCATION_INFO,
+        Node::SignerInfos => &[(Some(0x30), false, "a signer", Node::SignerInfo)],
+        Node::SignerInfo => &SIGNER_INFO,
+        Node::SignerIdentifier => &SIGNER_IDENTIFIER,
+        Node::IssuerAndSerial => &ISSUER_AND_SERIAL,
+        Node::Key => &KEY,
+        Node::EncryptedKey => &ENCRYPTED_KEY,
+        Node::Timestamp => &TIMESTAMP,
+        Node::StatusInfo => &STATUS_INFO,
+        Node::FreeText => &[(Some(0x0c), false, "a text", Node::Leaf)],
+        Node::TimestampInfo => &TIMESTAMP_INFO,
+        Node::MessageImprint => &MESSAGE_IMPRINT,
+        Node::Accuracy => &ACCURACY,
         Node::Leaf => &[],
     }
 }
@@ -395,7 +696,15 @@ pub fn is_list(node: Node) -> bool
         | Node::Qualifiers
         | Node::Purposes
         | Node::Features
-        | Node::DirectoryAttributes => true,
+        | Node::DirectoryAttributes
+        | Node::SingleRequests
+        | Node::Certificates
+        | Node::SingleResponses
+        | Node::Algorithms
+        | Node::CertificateSet
+        | Node::RevocationInfos
+        | Node::SignerInfos
+        | Node::FreeText => true,
         _ => false,
     }
 }

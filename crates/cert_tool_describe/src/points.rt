@@ -121,24 +121,34 @@ impl Describe for IssuingDistributionPoint {
     }
 }
 
+// Adds a line with an access description.
+fn add_access(lines: &mut Lines, access: &AccessDescription) {
+    lines.item("");
+    lines.brace();
+    lines.members_of(&access.access_method);
+    lines.key("accessLocation");
+    lines.brace();
+    add_general_name(lines, &access.access_location);
+    lines.end_brace();
+    lines.end_brace();
+}
+
+/// Adds a line for each access description.
+pub fn add_accesses(lines: &mut Lines, accesses: &[AccessDescription]) {
+    lines.list("accesses");
+    for access in accesses {
+        add_access(lines, access);
+    }
+    lines.end_list();
+}
+
 impl Describe for AuthorityInfoAccessSyntax {
     fn read_content(alloc: Global, octets: &[u8]) -> Result<AuthorityInfoAccessSyntax, Error> {
         Ok(AuthorityInfoAccessSyntax(read_members::<AccessDescription>(alloc, octets)?))
     }
 
     fn describe(&self, lines: &mut Lines) {
-        lines.list("accesses");
-        for access in &self.0 {
-            lines.item("");
-            lines.brace();
-            lines.members_of(&access.access_method);
-            lines.key("accessLocation");
-            lines.brace();
-            add_general_name(lines, &access.access_location);
-            lines.end_brace();
-            lines.end_brace();
-        }
-        lines.end_list();
+        add_accesses(lines, self.0.as_slice());
     }
 }
 

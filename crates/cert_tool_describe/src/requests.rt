@@ -6,7 +6,7 @@ ghost use Rattle.cert_tool_describe.specs.Files.{IsRequest};
 use crate::algorithms::add_signature;
 use crate::contents::add_extensions;
 use crate::described::{DescribeFile, add_file};
-use crate::description::add_kind;
+use crate::description::add_version;
 use crate::keys::{add_digests, add_key, add_key_digests};
 use crate::values::{add_name, add_value, list_in, noted};
 use cert_tool_lines::Lines;
@@ -59,7 +59,8 @@ fn add_attribute(lines: &mut Lines, attribute: &Attribute) {
 
 // Adds the lines of the CertificationRequestInfo.
 fn add_info(lines: &mut Lines, info: &CertReqInfo) {
-    add_kind(lines, "request", Version::V1);
+    lines.text_row("", "kind", "request");
+    add_version(lines, Version::V1);
     add_name(lines, "subject", "subject", &info.subject);
     add_key(lines, &info.public_key);
     lines.list("attributes");

@@ -1,6 +1,6 @@
 //! Values that are valid, but that this program doesn't support.
 
-use crate::dates::{is_early_generalized, is_early_utc};
+use crate::dates::{has_fraction, is_early_generalized, is_early_utc};
 use crate::parts::{Node, Part, parts_of};
 use x509_cert_lists::der::{ErrorKind, Tag};
 use x509_cert_lists::oid::ObjectIdentifier;
@@ -83,6 +83,9 @@ fn ends_in_one(content: &[u8]) -> bool {
 fn value_words(tag: Tag, content: &[u8], name: &str) -> &'static str {
     let (is_early, is_bits) = match tag {
         Tag::UtcTime => (is_early_utc(content), false),
+        Tag::GeneralizedTime if name == "genTime" && has_fraction(content) => {
+            return "a date with a fraction of a second";
+        }
         Tag::GeneralizedTime => (is_early_generalized(content), false),
         Tag::BitString => (false, true),
         Tag::TeletexString => return "a TeletexString with a byte above 7F",

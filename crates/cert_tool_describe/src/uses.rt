@@ -21,7 +21,7 @@ impl Describe for SubjectKeyIdentifier {
     }
 }
 
-// Adds an array with the names of the flags that are set. Each line begins with this word.
+/// Adds an array with the names of the flags that are set. Each line begins with this word.
 pub fn add_flags<F: NamedBits>(
     lines: &mut Lines,
     word: &str,
@@ -92,8 +92,8 @@ impl Describe for BasicConstraints {
     }
 }
 
-// Adds a line with a date.
-fn add_date(lines: &mut Lines, word: &str, key: &str, date: &GeneralizedTime) {
+/// Adds a line with a date.
+pub fn add_date(lines: &mut Lines, word: &str, key: &str, date: &GeneralizedTime) {
     lines.row(word, key);
     lines.value(date.to_date_time());
 }

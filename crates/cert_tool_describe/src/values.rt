@@ -96,8 +96,8 @@ fn is_spelled(value: &Any) -> bool {
     }
 }
 
-// Adds the members of a value: its type, and its text if it is a string of characters, else its
-// bytes.
+/// Adds the members of a value: its type, and its text if it is a string of characters, else its
+/// bytes.
 pub fn add_value(lines: &mut Lines, value: &Any) {
     lines.key("type");
     lines.value(value.tag());
@@ -143,8 +143,8 @@ pub fn add_value_of(lines: &mut Lines, octets: &[u8]) {
     }
 }
 
-// Decodes a value of a type that implements `Described`. The function is generic so that the
-// decoder is checked here, and not in each caller.
+/// Decodes a value of a type that implements `Described`. The function is generic so that the
+/// decoder is checked here, and not in each caller.
 pub fn read<'a, T: Described + FixedTag + Drop>(alloc: Global, octets: &'a [u8]) -> Result<T, Error>
 where
     T::By: DecodeWay<'a, SliceReader<'a>, T>,
@@ -152,7 +152,7 @@ where
     read_whole(alloc, octets)
 }
 
-// Decodes a list of values of a type that implements `Described`.
+/// Decodes a list of values of a type that implements `Described`.
 pub fn read_members<'a, T: Described + FixedTag + Drop>(
     alloc: Global,
     octets: &'a [u8],
@@ -168,7 +168,8 @@ pub fn values_in(alloc: Global, value: &Any) -> Result<Vec<Any>, Error> {
     value.decode_as(alloc)
 }
 
-// Returns a value that was decoded, or `None` if it can't be. If memory has run out, `lines` fails.
+/// Returns a value that was decoded, or `None` if it can't be. If memory has run out, `lines`
+/// fails.
 pub fn noted<T: Drop>(lines: &mut Lines, decoded: Result<T, Error>) -> Option<T> {
     match decoded {
         Ok(value) => Some(value),
@@ -179,7 +180,7 @@ pub fn noted<T: Drop>(lines: &mut Lines, decoded: Result<T, Error>) -> Option<T>
     }
 }
 
-// Returns the values inside a SEQUENCE; `None` if the value isn't one.
+/// Returns the values inside a SEQUENCE; `None` if the value isn't one.
 pub fn sequence_in(lines: &mut Lines, value: &Any) -> Option<Vec<Any>> {
     let values = values_in(lines.alloc, value);
     noted(lines, values)
@@ -193,7 +194,7 @@ pub fn inside(lines: &mut Lines, value: &Any) -> Vec<Any> {
     }
 }
 
-// Decodes a SEQUENCE, and returns the values inside it; `None` if the bytes can't be decoded.
+/// Decodes a SEQUENCE, and returns the values inside it; `None` if the bytes can't be decoded.
 pub fn any_in(lines: &mut Lines, octets: &[u8]) -> Option<Vec<Any>> {
     let values = read_whole::<Vec<Any>>(lines.alloc, octets);
     noted(lines, values)
@@ -214,7 +215,7 @@ pub fn are_tagged(fields: &[Any], bound: u32) -> bool {
     true
 }
 
-// Decodes the values of a type that implements `Described`, which are inside a SEQUENCE.
+/// Decodes the values of a type that implements `Described`, which are inside a SEQUENCE.
 pub fn list_in<'a, T: Described + FixedTag + Drop>(
     alloc: Global,
     value: &'a Any,
@@ -258,8 +259,8 @@ fn add_attributes(lines: &mut Lines, name: &Name) {
     }
 }
 
-// Adds the members of a name: its text and its attributes. In the text, bytes follow `#` (RFC 4514
-// 2.4), so a text without `#` says everything.
+/// Adds the members of a name: its text and its attributes. In the text, bytes follow `#` (RFC 4514
+/// 2.4), so a text without `#` says everything.
 pub fn add_name_members(lines: &mut Lines, name: &Name) {
     let text = match name.to_string(lines.alloc) {
         Ok(text) => text,
@@ -279,7 +280,7 @@ pub fn add_name_members(lines: &mut Lines, name: &Name) {
     lines.end_list();
 }
 
-// Adds the lines of a name.
+/// Adds the lines of a name.
 pub fn add_name(lines: &mut Lines, word: &str, key: &str, name: &Name) {
     lines.node(word, key);
     add_name_members(lines, name);

@@ -103,17 +103,103 @@ fn pkcs1_name(last: u8) -> &'static str {
     }
 }
 
-// Names attributes (RFC 2985 5, RFC 8551 2.5.2).
+// Names algorithms that encrypt with a password (RFC 8018 A).
+fn pkcs5_name(last: u8) -> &'static str {
+    match last {
+        1 => "pbeWithMD2AndDES-CBC",
+        3 => "pbeWithMD5AndDES-CBC",
+        4 => "pbeWithMD2AndRC2-CBC",
+        6 => "pbeWithMD5AndRC2-CBC",
+        10 => "pbeWithSHA1AndDES-CBC",
+        11 => "pbeWithSHA1AndRC2-CBC",
+        12 => "id-PBKDF2",
+        13 => "id-PBES2",
+        _ => "",
+    }
+}
+
+// Names types of messages (RFC 5652 4 to 8).
+fn pkcs7_name(last: u8) -> &'static str {
+    match last {
+        1 => "id-data",
+        2 => "id-signedData",
+        3 => "id-envelopedData",
+        5 => "id-digestedData",
+        6 => "id-encryptedData",
+        _ => "",
+    }
+}
+
+// Names attributes (RFC 2985 5, RFC 5652 11, RFC 8551 2.5.2).
 fn pkcs9_name(last: u8) -> &'static str {
     match last {
         1 => "emailAddress",
         2 => "unstructuredName",
+        3 => "contentType",
+        4 => "messageDigest",
+        5 => "signingTime",
+        6 => "countersignature",
         7 => "challengePassword",
         8 => "unstructuredAddress",
         14 => "extensionRequest",
         15 => "smimeCapabilities",
         20 => "friendlyName",
         21 => "localKeyID",
+        _ => "",
+    }
+}
+
+// Names attributes of signatures (RFC 3161 A, RFC 5035 3, 4).
+fn signature_attribute_name(last: u8) -> &'static str {
+    match last {
+        12 => "id-aa-signingCertificate",
+        14 => "id-aa-timeStampToken",
+        47 => "id-aa-signingCertificateV2",
+        _ => "",
+    }
+}
+
+// Names algorithms that encrypt with a password (RFC 7292 C).
+fn pkcs12_name(last: u8) -> &'static str {
+    match last {
+        1 => "pbeWithSHAAnd128BitRC4",
+        2 => "pbeWithSHAAnd40BitRC4",
+        3 => "pbeWithSHAAnd3-KeyTripleDES-CBC",
+        4 => "pbeWithSHAAnd2-KeyTripleDES-CBC",
+        5 => "pbeWithSHAAnd128BitRC2-CBC",
+        6 => "pbeWithSHAAnd40BitRC2-CBC",
+        _ => "",
+    }
+}
+
+// Names digests and HMACs (RFC 1319, RFC 1321, RFC 8018 B.1).
+fn rsa_digest_name(last: u8) -> &'static str {
+    match last {
+        2 => "md2",
+        5 => "md5",
+        7 => "id-hmacWithSHA1",
+        8 => "id-hmacWithSHA224",
+        9 => "id-hmacWithSHA256",
+        10 => "id-hmacWithSHA384",
+        11 => "id-hmacWithSHA512",
+        12 => "id-hmacWithSHA512-224",
+        13 => "id-hmacWithSHA512-256",
+        _ => "",
+    }
+}
+
+// Names those below 1.2.840.113549.
+fn rsa_name(front: &[u8], last: u8) -> &'static str {
+    match (front, last) {
+        ([1, 1], _) => pkcs1_name(last),
+        ([1, 5], _) => pkcs5_name(last),
+        ([1, 7], _) => pkcs7_name(last),
+        ([1, 9], _) => pkcs9_name(last),
+        ([1, 9, 16, 1], 4) => "id-ct-TSTInfo",
+        ([1, 9, 16, 2], _) => signature_attribute_name(last),
+        ([1, 12, 1], _) => pkcs12_name(last),
+        ([2], _) => rsa_digest_name(last),
+        ([3], 7) => "des-EDE3-CBC",
         _ => "",
     }
 }
@@ -340,6 +426,20 @@ fn access_name(last: u8) -> &'static str {
     }
 }
 
+// Names the basic response of OCSP, and extensions (RFC 6960 4.2.1, 4.2.2.2.1, 4.4).
+fn ocsp_name(last: u8) -> &'static str {
+    match last {
+        1 => "id-pkix-ocsp-basic",
+        2 => "id-pkix-ocsp-nonce",
+        3 => "id-pkix-ocsp-crl",
+        4 => "id-pkix-ocsp-response",
+        5 => "noCheck",
+        6 => "id-pkix-ocsp-archive-cutoff",
+        7 => "id-pkix-ocsp-service-locator",
+        _ => "",
+    }
+}
+
 // Names certificate transparency (RFC 6962 3.1, 3.3).
 fn ct_name(last: u8) -> &'static str {
     match last {
@@ -376,6 +476,19 @@ fn jurisdiction_name(last: u8) -> &'static str {
         1 => "jurisdictionLocality",
         2 => "jurisdictionStateOrProvince",
         3 => "jurisdictionCountry",
+        _ => "",
+    }
+}
+
+// Names ciphers (RFC 3565 4.1, RFC 5084 3.2).
+fn aes_name(last: u8) -> &'static str {
+    match last {
+        2 => "id-aes128-CBC",
+        6 => "id-aes128-GCM",
+        22 => "id-aes192-CBC",
+        26 => "id-aes192-GCM",
+        42 => "id-aes256-CBC",
+        46 => "id-aes256-GCM",
         _ => "",
     }
 }
@@ -461,10 +574,7 @@ fn gost_name(last: u8) -> &'static str {
 // Names those below 1.2.
 fn below_members(front: &[u8], last: u8) -> &'static str {
     match (front, last) {
-        ([0x86, 72, 0x86, 0xf7, 13, 1, 1], _) => pkcs1_name(last),
-        ([0x86, 72, 0x86, 0xf7, 13, 1, 9], _) => pkcs9_name(last),
-        ([0x86, 72, 0x86, 0xf7, 13, 2], 2) => "md2",
-        ([0x86, 72, 0x86, 0xf7, 13, 2], 5) => "md5",
+        ([0x86, 72, 0x86, 0xf7, 13, rest @ ..], _) => rsa_name(rest, last),
         ([0x86, 72, 0xce, 61, 2], 1) => "id-ecPublicKey",
         ([0x86, 72, 0xce, 61, 3, 0], _) => x962_binary_name(last),
         ([0x86, 72, 0xce, 61, 3, 1], _) => x962_prime_name(last),
@@ -500,10 +610,11 @@ fn below_organizations(front: &[u8], last: u8) -> &'static str {
         ([6, 1, 5, 5, 7, 3], _) => purpose_name(last),
         ([6, 1, 5, 5, 7, 8], _) => other_name_name(last),
         ([6, 1, 5, 5, 7, 48], _) => access_name(last),
-        ([6, 1, 5, 5, 7, 48, 1], 5) => "noCheck",
+        ([6, 1, 5, 5, 7, 48, 1], _) => ocsp_name(last),
         ([6, 1, 5, 2, 3], 4) => "pkInitClientAuth",
         ([6, 1, 5, 2, 3], 5) => "pkInitKDC",
         ([6, 1, 4, 1, 0xd6, 121, 2, 4], _) => ct_name(last),
+        ([6, 1, 4, 1, 0xda, 71, 4], 11) => "id-scrypt",
         ([6, 1, 4, 1, 0x82, 55, 2, 1], _) => ms_code_name(last),
         ([6, 1, 4, 1, 0x82, 55, 10, 3], _) => ms_purpose_name(last),
         ([6, 1, 4, 1, 0x82, 55, 20], 2) => "enrollCertType",
@@ -518,6 +629,7 @@ fn below_organizations(front: &[u8], last: u8) -> &'static str {
 // Names those below 2.16.
 fn below_countries(front: &[u8], last: u8) -> &'static str {
     match (front, last) {
+        ([0x86, 72, 1, 101, 3, 4, 1], _) => aes_name(last),
         ([0x86, 72, 1, 101, 3, 4, 2], _) => nist_digest_name(last),
         ([0x86, 72, 1, 101, 3, 4, 3], _) => nist_signature_name(last),
         ([0x86, 72, 1, 0x86, 0xf8, 66, 1], _) => netscape_name(last),
