@@ -43,7 +43,6 @@ import needs
 
 needs.check(__file__)
 
-from cryptography.hazmat._oid import _OID_NAMES
 from pyasn1.codec.der.decoder import decode
 from pyasn1.codec.der.encoder import encode
 from pyasn1.error import PyAsn1Error
@@ -54,21 +53,12 @@ import built
 import der
 import lines
 import mutated
+import names
 import reader
 import served
 from der import TEXTS, TYPES, dotted, tlv
 from tool import ROOTS, Tool, files
 
-# The names that `cert_tool` has for object identifiers, from RFC 5280 and related standards, and
-# those that the other programs have.
-NAMES = {
-    "secp192r1": "prime192v1", "secp256r1": "prime256v1", "reasonCode": "cRLReason",
-    "extKeyUsage": "extendedKeyUsage", "jurisdictionLocality": "jurisdictionLocalityName",
-    "jurisdictionStateOrProvince": "jurisdictionStateOrProvinceName",
-    "jurisdictionCountry": "jurisdictionCountryName", "userPrincipalName": "msUPN",
-    "ipAddrBlocks": "sbgp-ipAddrBlock", "autonomousSysIds": "sbgp-autonomousSysNum",
-    "ipAddrBlocks-v2": "sbgp-ipAddrBlockv2", "autonomousSysIds-v2": "sbgp-autonomousSysNumv2",
-}
 # The types of attributes that have a name in RFC 4514 3, and some more.
 SHORT = {
     "2.5.4.3": "CN", "2.5.4.4": "SN", "2.5.4.5": "SERIALNUMBER", "2.5.4.6": "C", "2.5.4.7": "L",
@@ -301,7 +291,7 @@ def algorithm(of):
     if not of["parameters"].isValue or found["id"] in KEYS:
         return found
     if found["id"] != "1.2.840.113549.1.1.10":
-        is_null = bytes(of["parameters"]) == b"\5\0" and found["id"] in KNOWN
+        is_null = bytes(of["parameters"]) == b"\5\0" and found["id"] in names.KNOWN
         return found | ({} if is_null else {"parameters": value(bytes(of["parameters"]))})
     if of["parameters"].isValue:
         inner = {tag & 0x1F: der.values(field) for tag, field in inside(bytes(of["parameters"]))}
@@ -345,7 +335,7 @@ def number_said(text):
 def curve(said, parameters):
     """Returns the identifier of a curve, its equation, or the value that names none."""
     if "Prime" not in said:
-        identifier = IDENTIFIERS.get(said.get("ASN1 OID"))
+        identifier = names.IDENTIFIERS.get(said.get("ASN1 OID"))
         return {"id": identifier} if identifier else value(parameters)
     # Each coefficient is as long as the prime.
     length = (int(said["Prime"], 16).bit_length() + 7) // 8
@@ -483,40 +473,11 @@ def document(kind, encoded):
     return found | {"signatureAlgorithm": algorithm(by), "signatureValue": bits(signature)}
 
 
-# The names of object identifiers.
-
-
-def known_names():
-    """Returns the names that OpenSSL and `cryptography` have for each object identifier."""
-    names = collections.defaultdict(set)
-    said = subprocess.run(["openssl", "list", "-objects"], capture_output=True, check=True).stdout
-    for found in re.finditer(r"^(.*?) = (?:(.*), )?(\d[\d.]*)$", said.decode(), re.M):
-        names[found[3]].update(filter(None, found.groups()[:2]))
-    for identifier, word in _OID_NAMES.items():
-        names[identifier.dotted_string].add(word)
-    # szOID_ENROLL_CERTTYPE_EXTENSION and szOID_CERTIFICATE_TEMPLATE ([MS-WCCE] 2.2.2.7.7). Only
-    # later versions of `cryptography` name the second.
-    names["1.3.6.1.4.1.311.20.2"].add("enrollCertType")
-    names["1.3.6.1.4.1.311.21.7"].add("msCertificateTemplate")
-    return names
-
-
-KNOWN = known_names()
-IDENTIFIERS = {word: identifier for identifier, words in KNOWN.items() for word in words}
-
-
-def folded(word):
-    """Removes prefixes, hyphens and upper case, in which the names differ."""
-    word = re.sub(r"^(X509v3 |id-(at|ce|kp|qt|on|ad)-|id-|ad[-_ ])", "", word)
-    return re.sub(r"[^a-z0-9]", "", word.lower())
-
-
 def bared(pairs):
     """Returns the members of an object without the right name of an object identifier, and without
     what the other programs don't report."""
     of = dict(pairs)
-    word, words = of.get("name", ""), {folded(it) for it in KNOWN.get(of.get("id"), ())}
-    is_right = folded(NAMES.get(word, word)) in words
+    is_right = names.are_same(of.get("name", ""), of.get("id"))
     return {key: of[key] for key in of if key != "timestamps" and not (is_right and key == "name")}
 
 

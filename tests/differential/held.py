@@ -1,8 +1,10 @@
 #!/usr/bin/env python3
-"""Compares `--host`, `--warn-days` and `--strict` of `cert_tool verify` with OpenSSL and Python,
-and the member `unjudged` of its JSON with the extensions that were written.
+"""Compares the stricter checks of `cert_tool verify` with OpenSSL and Python.
 
     held.py TOOL [COUNT]
+
+These are `--host`, `--warn-days` and `--strict`. The member `unjudged` of its JSON is compared with
+the extensions that were written.
 
 Host names, of which COUNT are compared (10,000 if it isn't given): `X509_check_host` and
 `X509_check_ip_asc` of OpenSSL, which `openssl verify -verify_hostname` and `-verify_ip` call, and
@@ -11,6 +13,7 @@ Host names, of which COUNT are compared (10,000 if it isn't given): `X509_check_
 one is printed.
 """
 
+import argparse
 import collections
 import ctypes
 import ctypes.util
@@ -214,7 +217,9 @@ def compare_days(verifier, folder):
         status, output = verifier.ask(root, [leaf], "--at", str(now), "--warn-days", str(days))
         if status == 1:
             continue  # it has expired
-        assert (status == 7) == (output == 'trusted calls=1 "CN=leaf"\nends 0\n'), output
+        date = time.strftime("%Y-%m-%dT%H:%M:%SZ", time.gmtime(last))
+        expected = f'trusted calls=1 "CN=leaf"\nends 0 {date}\n'
+        assert (status == 7) == (output == expected), output
         report.compare(status == 7, theirs, (), days, last - now)
     return report.end()
 
@@ -289,8 +294,13 @@ def compare_anchors(verifier, folder):
 
 
 def main():
-    verifier = Verifier(sys.argv[1])
-    differ = compare_hosts(verifier, int(sys.argv[2]) if len(sys.argv) > 2 else 10000)
+    form = argparse.RawDescriptionHelpFormatter
+    parser = argparse.ArgumentParser(description=__doc__, formatter_class=form)
+    parser.add_argument("tool", metavar="TOOL")
+    parser.add_argument("count", metavar="COUNT", nargs="?", type=int, default=10000)
+    given = parser.parse_args()
+    verifier = Verifier(given.tool)
+    differ = compare_hosts(verifier, given.count)
     differ |= compare_unjudged(verifier)
     with tempfile.TemporaryDirectory() as folder:
         differ |= compare_days(verifier, pathlib.Path(folder))

@@ -34,6 +34,8 @@ HINTED = [
     ("A_z-0./:@%+,", "A_z-0./:@%+,"),
     ("\x1b[2J", None),
     ("\u202e", None),
+    ("--odd.der", "-- --odd.der"),
+    ("--host=a b", "-- '--host=a b'"),
 ]
 
 
@@ -78,7 +80,7 @@ def hinted():
         errors = ["fault 0 0 NoCertificate"]
         end = f" {word}" if word else ", with this file"
         errors.append(f"(why: cert_tool explain stream --limit 65536{end})")
-        yield ["split", name], {name: b"1"}, (2, b"", text(errors))
+        yield ["split", "--", name], {name: b"1"}, (2, b"", text(errors))
 
 
 def run_on():

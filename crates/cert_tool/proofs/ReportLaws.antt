@@ -1,8 +1,6 @@
--- Reports that come before others, texts that are written in two parts, and arguments that ask for
--- help.
-use Rattle.std.proofs.Common.{◌≡◌, ℕ, ◌+◌, ◌||◌, Bool, List, [], ◌∷◌, ◌++◌, length, map, take, Result, Ok, Err, OnErr, OnOk, inl, inr, refl, sym, ap, subst, arith, length-append}
+-- Reports that come before others, and texts that are written in two parts.
+use Rattle.std.proofs.Common.{◌≡◌, ℕ, ◌+◌, Bool, List, ◌++◌, length, take, Result, Ok, Err, OnErr, OnOk, inl, inr, refl, sym, subst, arith, length-append}
 use Rattle.std.proofs.Math.Seq.{take-append-add}
-use Rattle.std.specs.List.{list_any}
 use Rattle.std.specs.Prelude.{codes}
 use Rattle.cert_tool_explain.specs.DeskIo.declared.exit_status.ExitStatus.{ExitStatus}
 use Rattle.cert_tool_explain.specs.DeskIo.Devices.{Device, Fails, IsCut, IsWritten}
@@ -40,11 +38,6 @@ second_cut out in_turn first second end written h = (
   omega (arith, h.1, length-append first second),
   subst (λ (x : List ℕ). Fails (record out { new = end }) x) (sym (take-append-add first second h.0)) (failed_on out in_turn (first, written.0, written.1) end (take h.0 second) h.2),
 )
-
--- One of the arguments passes a test, as a value of the code and as its abstract value.
-pub any_map : {A : Type 0} (f : A → List ℕ) (p : List ℕ → Bool) (words : List A) → list_any (λ word. p (f word)) words ≡ list_any p (map f words)
-any_map f p [] = refl
-any_map f p (word ∷ words) = ap (λ (b : Bool). p (f word) || b) (any_map f p words)
 
 -- The status of an explanation, where the input is valid for another reason.
 pub status_so : {A B : Type 0} (fails : Bool) (status : ExitStatus) → (A → B) → IsStatusBy fails A status → IsStatusBy fails B status

@@ -1,28 +1,20 @@
 -- Requests, their arguments, and the answers that were written so far.
-use Rattle.std.proofs.Common.{◌≡◌, ℕ, ◌<◌, ◌^◌, ◌≤◌, ◌⊎◌, inl, inr, Bool, true, false, List, ◌++◌, length, map, sym, subst, ◌∙◌}
+use Rattle.std.proofs.Common.{◌≡◌, ℕ, ◌<◌, ◌^◌, ◌≤◌, ◌⊎◌, inl, inr, Bool, true, false, List, ◌++◌, length, sym, subst, ◌∙◌}
 use Rattle.std.proofs.lemmas.Bool.{false≢true}
 use Rattle.std.specs.Prelude.{IsUtf8}
-use Rattle.std.specs.List.{list_any}
 use Rattle.cert_tool.specs.declared.status.Status.{Status}
-use Rattle.cert_tool_explain.specs.DeskIo.Devices.{Device, sink, source}
-use Rattle.cert_tool_explain.specs.DeskIo.NamedInputs.{Inputs}
+use Rattle.cert_tool_explain.specs.DeskIo.Devices.{sink, source}
 use Rattle.cert_tool_explain.specs.DeskIo.declared.frame_error.FrameError.{FrameError}
 use Rattle.cert_tool_explain.specs.DeskIo.declared.frame_error.FrameError.TheVariants as errors
 use Rattle.cert_tool_explain.specs.DeskIo.Frames.{frame}
 use Rattle.cert_tool.proofs.SentInputLaws.{same_content}
-use Rattle.cert_tool.proofs.ReportLaws.{any_map}
-use Rattle.cert_tool.specs.TaskRuns.{Clock, AreArgumentsRun, is_help_or_version}
+use Rattle.cert_tool.specs.TaskRuns.{Clock}
 use Rattle.cert_tool.specs.Serving.{AreReplies, HasOutcome, HasNoReply, IsNextServed, IsRequest, more}
 
 -- Bytes whose text isn't UTF-8 aren't a request.
 pub no_request : (octets text parts : List ℕ) → octets ≡ frame text ++ parts → length text < 2 ^ 32 → (IsUtf8 text → ⊥) → (other : List ℕ) → (behind : List ℕ) → IsRequest octets other behind → ⊥
 no_request octets text parts begins short faulty other behind is =
     faulty (subst IsUtf8 (same_content other text behind parts is.1 short (sym is.0 ∙ begins)) is.2)
-
--- The effect of the arguments, with the test for help over their abstract values.
-pub run_once : {A : Type 0} (f : A → List ℕ) (tells : Clock) (i : Inputs) (out err : Device) (words : List A) (status : Status) → AreArgumentsRun tells i out err (map f words) (list_any (λ word. is_help_or_version (f word)) words) status → AreArgumentsRun tells i out err (map f words) (list_any is_help_or_version (map f words)) status
-run_once f tells i out err words status is =
-    subst (λ (b : Bool). AreArgumentsRun tells i out err (map f words) b status) (any_map f is_help_or_version words) is
 
 -- If an output of the run is too long for a frame, there is no answer.
 pub no_reply : (tells : Clock) (octets : List ℕ) (status : Status) (output others : List ℕ) → HasOutcome tells octets status output others → (error : FrameError) → ((error ≡ errors.TooLong) × ((2 ^ 32 ≤ length output) ⊎ (2 ^ 32 ≤ length others))) ⊎ (error ≡ errors.OutOfMemory) → HasNoReply tells octets error

@@ -1,6 +1,7 @@
 -- The reports on a trusted chain that must meet demands beyond the rules of path validation.
 use Rattle.std.specs.Prelude.{◌≡◌, ℕ, ◌⊎◌, List, ◌++◌, codes, decimal, Bool, true, false, Option, Some}
-use Rattle.std.specs.Prelude.{None}
+use Rattle.std.specs.Prelude.{None, [], slice_get}
+use Rattle.std.specs.Option.{option_map_or}
 use Rattle.cert_tool_explain.specs.DeskIo.declared.exit_status.ExitStatus.{ExitStatus}
 use Rattle.cert_tool_explain.specs.DeskIo.declared.exit_status.ExitStatus.TheVariants as statuses
 use Rattle.cert_tool_explain.specs.DeskIo.Devices.{Device, Untouched}
@@ -9,7 +10,8 @@ use Rattle.cert_tool_explain.specs.DeskRules.declared.checked.Checked.{Checked}
 use Rattle.cert_tool_explain.specs.DeskRules.declared.checked.Verdict.{Verdict}
 use Rattle.cert_tool_explain.specs.DeskRules.declared.checked.Verdict.TheVariants as verdicts
 use Rattle.cert_tool_explain.specs.DeskRules.Judging.{Answers}
-use Rattle.cert_tool_explain.specs.CertCertificates.Certificates.{PlainCertificate}
+use Rattle.cert_tool_explain.specs.CertCertificates.Certificates.{PlainCertificate, not_after}
+use Rattle.cert_tool_explain.specs.Types.DateTexts.{date_text}
 use Rattle.cert_tool_limits.specs.declared.demands.Demands.{Demands}
 use Rattle.cert_tool_limits.specs.declared.demands.DemandResult.{DemandResult}
 use Rattle.cert_tool_limits.specs.declared.demands.DemandResult.TheVariants as outcomes
@@ -37,14 +39,18 @@ unmet_text false unjudged unmet calls =
     codes "refused " ++ decimal unmet.place ++ codes " " ++ limit_name unmet.limit
     ++ codes " calls=" ++ decimal calls ++ codes "\n"
 
--- The report on a trusted chain of which the certificate at this index ends soon.
-abbrev pub ends_at_text : Bool → List ℕ → ℕ → ℕ → List ℕ
-ends_at_text true whom place calls =
+-- The notAfter of the certificate at this index.
+abbrev pub end_date : List PlainCertificate → ℕ → List ℕ
+end_date cs place = option_map_or (λ c. date_text (not_after c)) (slice_get cs place) []
+
+-- The report on a trusted chain of which the certificate at this index ends soon, on this date.
+abbrev pub ends_at_text : Bool → List ℕ → ℕ → List ℕ → ℕ → List ℕ
+ends_at_text true whom place date calls =
     codes "{\"verdict\":\"trusted\",\"calls\":" ++ decimal calls ++ whom ++ codes ",\"ends\":"
-    ++ decimal place ++ codes "}\n"
-ends_at_text false whom place calls =
-    codes "trusted calls=" ++ decimal calls ++ whom ++ codes "\nends " ++ decimal place
-    ++ codes "\n"
+    ++ decimal place ++ codes ",\"notAfter\":\"" ++ date ++ codes "\"}\n"
+ends_at_text false whom place date calls =
+    codes "trusted calls=" ++ decimal calls ++ whom ++ codes "\nends " ++ decimal place ++ codes " "
+    ++ date ++ codes "\n"
 
 -- The report on a trusted chain whose trust anchor ends soon.
 abbrev pub anchor_ends_text : Bool → List ℕ → ℕ → List ℕ
@@ -54,11 +60,12 @@ anchor_ends_text true whom calls =
 anchor_ends_text false whom calls =
     codes "trusted calls=" ++ decimal calls ++ whom ++ codes "\nends anchor\n"
 
--- The report on a trusted chain that ends soon. It has the index of the certificate that ends, or
--- `anchor`.
-abbrev pub ends_text : Bool → List ℕ → Option ℕ → ℕ → List ℕ
-ends_text json whom (Some place) calls = ends_at_text json whom place calls
-ends_text json whom None calls = anchor_ends_text json whom calls
+-- The report on a trusted chain that ends soon. It has the index and the notAfter of the
+-- certificate that ends, or `anchor`.
+abbrev pub ends_text : Bool → List ℕ → List PlainCertificate → Option ℕ → ℕ → List ℕ
+ends_text json whom cs (Some place) calls =
+    ends_at_text json whom place (end_date cs place) calls
+ends_text json whom cs None calls = anchor_ends_text json whom calls
 
 -- The report on a trusted chain, by the result of checking the demands.
 abbrev pub demand_result_text : Bool → List ℕ → List PlainCertificate → DemandResult → ℕ → List ℕ
@@ -67,7 +74,7 @@ demand_result_text json unjudged cs outcomes.Met calls =
 demand_result_text json unjudged cs (outcomes.Unmet unmet) calls =
     unmet_text json unjudged unmet calls
 demand_result_text json unjudged cs (outcomes.Ends place) calls =
-    ends_text json (end_entity_text json cs ++ unjudged) place calls
+    ends_text json (end_entity_text json cs ++ unjudged) cs place calls
 
 -- The text is written to the output, and the status is that of the result.
 abbrev pub IsDemandResultReported : Device → Device → List ℕ → DemandResult → Status → Type 0

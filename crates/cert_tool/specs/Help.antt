@@ -1,9 +1,9 @@
 -- The help texts and the version of the program.
 use Rattle.std.specs.Prelude.{ℕ, List, [], ◌∷◌, ◌++◌, Bool, Option, Some, None, bytes_eq, codes}
 use Rattle.std.specs.Prelude.{if◌then◌else◌, unwrap_or}
-use Rattle.std.specs.List.{list_any}
 use Rattle.cert_tool.specs.declared.help.TheConstants.{ARGUMENTS, DESCRIBE, EXPLAIN, QUESTIONS}
 use Rattle.cert_tool.specs.declared.help.TheConstants.{REVERSE, SERVE, SPLIT, USAGE, VERIFY, VERSION}
+use Rattle.cert_tool.specs.ParsedArguments.{any_before_end}
 
 -- The help for the command that begins with this word.
 abbrev pub help_for : List ℕ → Option (List ℕ)
@@ -29,4 +29,4 @@ is_version word = bytes_eq word (codes "--version")
 -- The output for arguments that ask for help or for the version.
 abbrev pub program_text : List (List ℕ) → List ℕ
 program_text words =
-    if list_any is_version words then VERSION.now else help_of words ++ ARGUMENTS.now
+    if any_before_end is_version words then VERSION.now else help_of words ++ ARGUMENTS.now

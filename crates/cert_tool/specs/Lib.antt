@@ -1,4 +1,5 @@
 pub mod ParsedArguments
+pub mod Kinds
 pub mod Tasks
 pub mod NamedFiles
 pub mod EarlyEnds
@@ -9,6 +10,7 @@ pub mod EndEntities
 pub mod Verifying
 pub mod DemandReports
 pub mod Explaining
+pub mod Describing
 pub mod DescribedStreams
 pub mod JsonTexts
 pub mod Splitting

@@ -1,6 +1,6 @@
 -- How the arguments are parsed: the options, the value of each, and the other words.
 use Rattle.std.specs.Prelude.{ℕ, List, [], ◌∷◌, Bool, true, false, codes, bytes_eq, take, is_some}
-use Rattle.std.specs.Prelude.{◌==◌}
+use Rattle.std.specs.Prelude.{◌==◌, ◌||◌}
 use Rattle.std.specs.Prelude.{Option, Some, None, option_map, Result, Ok, Err, if◌then◌else◌}
 use Rattle.std.specs.List.{after_first, before_first}
 use Rattle.cert_tool.specs.declared.parsed_arguments.Key.{Key}
@@ -49,8 +49,18 @@ valued_key name = if_valued (key_of name)
 abbrev pub is_equals : ℕ → Bool
 is_equals octet = octet == 61
 
+-- The argument `--`, after which there are no options.
+abbrev pub is_end : List ℕ → Bool
+is_end word = bytes_eq word (codes "--")
+
+-- One of the words before `--` passes a test.
+abbrev pub any_before_end : (List ℕ → Bool) → List (List ℕ) → Bool
+any_before_end test [] = false
+any_before_end test (word ∷ words) =
+    if is_end word then false else test word || any_before_end test words
+
 -- The parsed arguments: the first three that are neither options nor values, the value of each
--- option, and the option whose value comes next.
+-- option, the option whose value comes next, and whether the options have ended.
 pub record PlainArguments : Type 0 where
   pub first : Option (List ℕ)
   pub second : Option (List ℕ)
@@ -69,6 +79,7 @@ pub record PlainArguments : Type 0 where
   pub warn_days : Option (List ℕ)
   pub fail_on_remark : Option (List ℕ)
   pub awaited : Option Key
+  pub is_ended : Bool
 
 -- The result of parsing no arguments.
 abbrev pub no_arguments : PlainArguments
@@ -90,6 +101,7 @@ no_arguments = record {
   warn_days = None;
   fail_on_remark = None;
   awaited = None;
+  is_ended = false;
 }
 
 -- The value of an option, if it is given.
@@ -151,8 +163,7 @@ abbrev pub with_pair : Option Key → List ℕ → PlainArguments
 with_pair (Some key) word g =
     if is_some (value_of key g) then Err (twice key)
     else Ok (with_value key (after_first is_equals word) g)
-with_pair None word g =
-    if is_option word then Err (unknown word) else with_word g.first g.second g.third word g
+with_pair None word g = Err (unknown word)
 
 -- The arguments with an option, which may have its value after `=` or in the next argument. An
 -- option that is given twice is an error.
@@ -164,10 +175,23 @@ with_key (Some key) word g =
     else Ok (record g { awaited = Some key })
 with_key None word g = with_pair (valued_key (before_first is_equals word)) word g
 
+-- The arguments with an argument that begins with two dashes: `--`, or an option.
+abbrev pub with_option : List ℕ → PlainArguments → Result PlainArguments PlainArgumentError
+with_option word g =
+    if is_end word then Ok (record g { is_ended = true }) else with_key (key_of word) word g
+
+-- The arguments with one more argument, which isn't the value of an option before it. After `--`,
+-- and without two dashes, it is no option.
+abbrev pub with_argument : Bool → List ℕ → PlainArguments
+    → Result PlainArguments PlainArgumentError
+with_argument true word g = with_word g.first g.second g.third word g
+with_argument false word g =
+    if is_option word then with_option word g else with_word g.first g.second g.third word g
+
 -- The arguments with one more argument; an option that awaits its value takes it.
 abbrev pub step_by : Option Key → PlainArguments → List ℕ → Result PlainArguments PlainArgumentError
 step_by (Some key) g word = Ok (with_value key word g)
-step_by None g word = with_key (key_of word) word g
+step_by None g word = with_argument g.is_ended word g
 
 -- The arguments with one more argument.
 abbrev pub step : PlainArguments → List ℕ → Result PlainArguments PlainArgumentError
@@ -209,6 +233,7 @@ arguments_plain g = record {
   warn_days = option_map (λ text. text.now) g.warn_days;
   fail_on_remark = option_map (λ text. text.now) g.fail_on_remark;
   awaited = g.awaited;
+  is_ended = g.is_ended;
 }
 
 -- The abstract value of `ArgumentError`.

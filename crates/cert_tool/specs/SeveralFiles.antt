@@ -1,7 +1,6 @@
 -- `describe` of several files: one run for each file.
 use Rattle.std.specs.Prelude.{◌≡◌, ◌≢◌, ℕ, ◌⊎◌, List, [], ◌∷◌, Bool, true, false, codes, bytes_eq}
-use Rattle.std.specs.Prelude.{is_some, if◌then◌else◌, length, nat_lt, Option, Some, None, map}
-use Rattle.std.specs.List.{list_any}
+use Rattle.std.specs.Prelude.{◌++◌, is_some, if◌then◌else◌, length, nat_lt, Option, Some, None, map}
 use Rattle.cert_tool_explain.specs.DeskIo.declared.exit_status.ExitStatus.{ExitStatus}
 use Rattle.cert_tool_explain.specs.DeskIo.declared.exit_status.ExitStatus.TheVariants as statuses
 use Rattle.cert_tool_explain.specs.DeskIo.Devices.{Device, Untouched}
@@ -13,18 +12,19 @@ use Rattle.cert_tool.specs.declared.status.Status.TheVariants as forms
 use Rattle.cert_tool.specs.declared.tasks.Misuse.{Misuse}
 use Rattle.cert_tool.specs.declared.tasks.Task.{Task}
 use Rattle.cert_tool.specs.EarlyEnds.{IsReasonReported}
-use Rattle.cert_tool.specs.ParsedArguments.{is_option, valued_key}
+use Rattle.cert_tool.specs.ParsedArguments.{is_end, is_option, valued_key}
 use Rattle.cert_tool.specs.Statuses.{Exits}
-use Rattle.cert_tool.specs.TaskRuns.{AreArgumentsRun, Clock, IsTaskRun, is_help_or_version}
+use Rattle.cert_tool.specs.TaskRuns.{AreArgumentsRun, Clock, IsTaskRun, any_help_or_version}
 use Rattle.cert_tool.specs.Tasks.{AsksFor, IsMisuse}
 
--- The words among these arguments that are neither options nor the values of options. `awaits`: the
--- first argument is the value of the option before it.
+-- The words among these arguments that are neither options nor the values of options; after `--`,
+-- all are. `awaits`: the first argument is the value of the option before it.
 abbrev pub words_in : Bool → List (List ℕ) → List (List ℕ)
 words_in awaits [] = []
 words_in true (word ∷ words) = words_in false words
 words_in false (word ∷ words) =
-    if is_option word then words_in (is_some (valued_key word)) words
+    if is_end word then words
+    else if is_option word then words_in (is_some (valued_key word)) words
     else word ∷ words_in false words
 
 -- The options among these arguments, with their values.
@@ -32,7 +32,8 @@ abbrev pub options_in : Bool → List (List ℕ) → List (List ℕ)
 options_in awaits [] = []
 options_in true (word ∷ words) = word ∷ options_in false words
 options_in false (word ∷ words) =
-    if is_option word then word ∷ options_in (is_some (valued_key word)) words
+    if is_end word then []
+    else if is_option word then word ∷ options_in (is_some (valued_key word)) words
     else options_in false words
 
 -- The arguments of `describe` for several files: the options, and then the kind and the files.
@@ -44,7 +45,7 @@ with_files options words = if nat_lt (length words) 3 then None else Some (optio
 -- help.
 abbrev pub several_after : List (List ℕ) → Option (List (List ℕ) × List (List ℕ))
 several_after words =
-    if list_any is_help_or_version words then None
+    if any_help_or_version words then None
     else with_files (options_in false words) (words_in false words)
 
 -- The word is `describe`.
@@ -60,9 +61,11 @@ several_in (word ∷ words) = if is_describe word then several_after words else 
 abbrev pub several_plain : Several → List (List ℕ) × List (List ℕ)
 several_plain s = (map (λ word. word.now) s.options.items, map (λ word. word.now) s.words.items)
 
--- The arguments for one of the files: the command, its kind, the file, and all options.
+-- The arguments for one of the files: the command, all options, and the kind and the file after
+-- `--`.
 abbrev pub for_file : List (List ℕ) → List ℕ → List ℕ → List (List ℕ)
-for_file options kind file = codes "describe" ∷ kind ∷ file ∷ options
+for_file options kind file =
+    (codes "describe" ∷ []) ++ options ++ (codes "--" ∷ kind ∷ file ∷ [])
 
 -- A heading is written. No clause states its text. If that fails, it is reported.
 abbrev pub IsHeaded : Device → Device → ExitStatus → Type 0
@@ -126,7 +129,7 @@ AreKindRun tells i out err options (kind ∷ files) answer =
 abbrev pub AreRunsBy : Option (List (List ℕ) × List (List ℕ)) → Clock → Inputs → Device → Device
     → List (List ℕ) → Status → Type 0
 AreRunsBy None tells i out err words answer =
-    AreArgumentsRun tells i out err words (list_any is_help_or_version words) answer
+    AreArgumentsRun tells i out err words answer
 AreRunsBy (Some s) tells i out err words answer = AreKindRun tells i out err s.0 s.1 answer
 
 -- The effect of the arguments of the program: several files are described, or there is one run. Or

@@ -19,11 +19,9 @@ use Rattle.cert_tool_explain.specs.DeskRules.Questions.{Question}
 use Rattle.cert_tool_explain.specs.DeskChecking.Reading.{IsFed}
 use Rattle.cert_tool_explain.specs.DeskChecking.Runs.{IsOutcome, Judge, judging, outcome_of}
 use Rattle.cert_tool_explain.specs.DeskBundle.Streams.{Kept}
-use Rattle.cert_tool_explain.specs.declared.kind.Kind.{Kind}
-use Rattle.cert_tool_explain.specs.declared.kind.Kind.TheVariants as kinds
-use Rattle.cert_tool_explain.specs.Describing.{IsDescribed, IsOfKind}
 use Rattle.cert_tool_pem.specs.declared.wanted.Wanted.{Wanted}
 use Rattle.cert_tool_pem.specs.declared.wanted.Wanted.TheVariants as wanted
+use Rattle.cert_tool.specs.declared.kinds.Kind.{Kind}
 use Rattle.cert_tool.specs.declared.option_values.Terms.{Terms}
 use Rattle.cert_tool.specs.declared.option_values.Moment.{Moment}
 use Rattle.cert_tool.specs.declared.option_values.Moment.TheVariants as moments
@@ -34,13 +32,16 @@ use Rattle.cert_tool.specs.declared.tasks.Command.TheVariants as commands
 use Rattle.cert_tool.specs.declared.tasks.Command.{Command}
 use Rattle.cert_tool.specs.declared.tasks.Misuse.{Misuse}
 use Rattle.cert_tool.specs.declared.tasks.Task.{Task}
+use Rattle.cert_tool.specs.ParsedArguments.{any_before_end}
 use Rattle.cert_tool.specs.QuestionRuns.{AreQuestionsFound, AreQuestionsReported}
 use Rattle.cert_tool.specs.Explaining.{IsExplained, IsUnreadReported, IsTextWritten}
 use Rattle.cert_tool.specs.Help.{program_text}
+use Rattle.cert_tool.specs.Kinds.{IsOfKind, wanted_of_kind}
 use Rattle.cert_tool.specs.NamedFiles.{IsOneUnusable, Named, OnNamedFile}
 use Rattle.cert_tool.specs.OneValue.{IsReadIf}
 use Rattle.cert_tool.specs.DemandReports.{IsChainReported}
 use Rattle.cert_tool.specs.DescribedStreams.{IsDescribedStream}
+use Rattle.cert_tool.specs.Describing.{IsDescribed}
 use Rattle.cert_tool.specs.Splitting.{IsEarlyEndReported, IsListed, IsReversed, IsTaken}
 use Rattle.cert_tool.specs.Statuses.{Exits}
 use Rattle.cert_tool.specs.EarlyEnds.{FedWithin, IsReasonReported, IsOutcomeReported, IsWriteTried}
@@ -208,16 +209,10 @@ IsEachDescribed i out err task answer =
     × IsDescribedStream stream out task.limit ended
     × OnFirstPart err (λ told. OnLastPart told (λ last. IsEarlyEndReported last ended answer)))
 
--- What the file of a kind must contain.
-abbrev pub of_kind : Kind → Wanted
-of_kind kinds.Certificate = wanted.Certificates
-of_kind kinds.List = wanted.List
-of_kind kinds.Request = wanted.Request
-
 -- What the file of a command must contain.
 abbrev pub wanted_of : Command → Wanted
-wanted_of (commands.Describe kind) = of_kind kind
-wanted_of (commands.Explain kind) = of_kind kind
+wanted_of (commands.Describe kind) = wanted_of_kind kind
+wanted_of (commands.Explain kind) = wanted_of_kind kind
 wanted_of commands.ExplainAnchors = wanted.Anchors
 wanted_of _ = wanted.Certificates
 
@@ -251,7 +246,8 @@ OnWholeFile i out err task answer Holds =
 -- The effect of `describe KIND`.
 abbrev pub IsFileDescribed : Kind → Inputs → Device → Device → Task → ExitStatus → Type 0
 IsFileDescribed kind i out err task answer =
-    OnWholeFile i out err task answer (λ octets told. IsDescribed kind octets out told answer)
+    OnWholeFile i out err task answer (λ octets told.
+    IsDescribed (IsOfKind kind octets) out told answer)
 
 -- The file of `explain KIND` can be decoded. The other commands have no `--fail-on-remark`.
 abbrev pub IsValidFile : Command → List ℕ → Type 0
@@ -290,13 +286,17 @@ is_help_or_version word =
     bytes_eq word (codes "--help") || (bytes_eq word (codes "-h")
     || bytes_eq word (codes "--version"))
 
+-- One of the arguments before `--` asks for help or for the version.
+abbrev pub any_help_or_version : List (List ℕ) → Bool
+any_help_or_version words = any_before_end is_help_or_version words
+
 -- The effect of the arguments. If one of them asks for help or for the version, that is written.
 -- Else the task that they ask for is run, or it is reported what is wrong with them.
-abbrev pub AreArgumentsRun : Clock → Inputs → Device → Device → List (List ℕ) → Bool → Status
-    → Type 0
-AreArgumentsRun tells i out err words of_program answer =
-    (IsTrue of_program × Exits (IsAnswer out err (program_text words) statuses.Done) answer)
-    ⊎ ((of_program ≡ false)
+abbrev pub AreArgumentsRun : Clock → Inputs → Device → Device → List (List ℕ) → Status → Type 0
+AreArgumentsRun tells i out err words answer =
+    (IsTrue (any_help_or_version words)
+    × Exits (IsAnswer out err (program_text words) statuses.Done) answer)
+    ⊎ ((any_help_or_version words ≡ false)
     × (((task : Task) × AsksFor words task × IsTaskRun tells i out err task answer)
     ⊎ ((misuse : Misuse) × IsMisuse words misuse × Untouched out × IsReasonReported err
     × (answer ≡ forms.Exit statuses.Arguments))))

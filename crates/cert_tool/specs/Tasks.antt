@@ -1,5 +1,5 @@
 -- The tasks that the arguments of `cert_tool` ask for.
-use Rattle.std.specs.Prelude.{◌≡◌, ◌≢◌, ℕ, ◌≤◌, ◌<◌, ◌^◌, ◌⊎◌, List, [], ◌∷◌, Bool, true, false}
+use Rattle.std.specs.Prelude.{◌≡◌, ◌≢◌, ℕ, ◌≤◌, ◌<◌, ◌^◌, ◌⊎◌, List, [], Bool, true, false}
 use Rattle.std.specs.Prelude.{◌&&◌, ◌||◌, codes, bytes_eq, is_ok, is_some, unwrap_or, if◌then◌else◌}
 use Rattle.std.specs.Prelude.{IsSome, IsTrue, Option, Some, None, option_map, Ok, Err}
 use Rattle.std.specs.Borrow.{Bor}
@@ -13,8 +13,8 @@ use Rattle.cert_tool_limits.specs.Hosts.declared.host.Host.{Host}
 use Rattle.cert_tool_limits.specs.Hosts.Hosts.{IsHost}
 use Rattle.cert_tool.specs.declared.parsed_arguments.Key.{Key}
 use Rattle.cert_tool.specs.declared.parsed_arguments.Key.TheVariants as keys
-use Rattle.cert_tool_explain.specs.declared.kind.Kind.{Kind}
-use Rattle.cert_tool_explain.specs.declared.kind.Kind.TheVariants as kinds
+use Rattle.cert_tool.specs.declared.kinds.Kind.{Kind}
+use Rattle.cert_tool.specs.declared.kinds.Kind.TheVariants as kinds
 use Rattle.cert_tool.specs.declared.option_values.Moment.{Moment}
 use Rattle.cert_tool.specs.declared.option_values.Moment.TheVariants as moments
 use Rattle.cert_tool.specs.declared.tasks.Command.{Command}
@@ -32,6 +32,11 @@ kind_of word =
     if bytes_eq word (codes "certificate") then Some kinds.Certificate
     else if bytes_eq word (codes "list") then Some kinds.List
     else if bytes_eq word (codes "request") then Some kinds.Request
+    else if bytes_eq word (codes "ocsp-request") then Some kinds.OcspRequest
+    else if bytes_eq word (codes "ocsp-response") then Some kinds.OcspResponse
+    else if bytes_eq word (codes "message") then Some kinds.Message
+    else if bytes_eq word (codes "key") then Some kinds.Key
+    else if bytes_eq word (codes "timestamp") then Some kinds.Timestamp
     else None
 
 -- The command of this one word.
@@ -157,21 +162,14 @@ IsMet needs.Barred value = value ≡ None
 abbrev pub Keeps : Command → PlainArguments → Key → Type 0
 Keeps command g key = IsMet (need_of command key) (value_of key g)
 
--- The command's conditions on these options are met.
-abbrev pub KeepsEach : Command → PlainArguments → List Key → Type 0
-KeepsEach command g [] = Unit {0}
-KeepsEach command g (key ∷ rest) = Keeps command g key × KeepsEach command g rest
-
--- All options.
-abbrev pub every_key : List Key
-every_key =
-    keys.Anchors ∷ keys.Answers ∷ keys.At ∷ keys.Purpose ∷ keys.Limit ∷ keys.Place ∷ keys.Json
-    ∷ keys.Digests ∷ keys.LeafFirst ∷ keys.Strict ∷ keys.Host ∷ keys.WarnDays
-    ∷ keys.FailOnRemark ∷ []
-
 -- The command's conditions on all options are met.
 abbrev pub KeepsAll : Command → PlainArguments → Type 0
-KeepsAll command g = KeepsEach command g every_key
+KeepsAll command g =
+    Keeps command g keys.Anchors × Keeps command g keys.Answers × Keeps command g keys.At
+    × Keeps command g keys.Purpose × Keeps command g keys.Limit × Keeps command g keys.Place
+    × Keeps command g keys.Json × Keeps command g keys.Digests × Keeps command g keys.LeafFirst
+    × Keeps command g keys.Strict × Keeps command g keys.Host × Keeps command g keys.WarnDays
+    × Keeps command g keys.FailOnRemark
 
 -- The validation time that is given, or its default.
 abbrev pub time_text : PlainArguments → List ℕ

@@ -24,7 +24,10 @@ fn anchor_reason(rule: Rule) -> &'static str {
 // Returns the reason for which a limit is broken, and the section that specifies it.
 fn reason_of(limit: Limit) -> (&'static str, &'static str) {
     match limit {
-        Limit::WrongHost => ("no dNSName or iPAddress is the host's", "RFC 9525 6"),
+        Limit::WrongHost => (
+            "the subjectAltName has neither this DNS name nor this address",
+            "RFC 9525 6",
+        ),
         Limit::WrongKeyUsage => (
             "keyUsage isn't consistent with the key purpose",
             "RFC 5280 4.2.1.12",

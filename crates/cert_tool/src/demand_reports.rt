@@ -6,7 +6,7 @@ ghost use Rattle.cert_tool_explain.specs.DeskIo.Whole.{most_octets};
 ghost use Rattle.cert_tool_explain.specs.DeskRules.Judges.{judge_answers};
 ghost use Rattle.cert_tool.specs.DemandReports.{IsChainReported, IsDemandResultReported};
 ghost use Rattle.cert_tool.specs.DemandReports.{IsReportedWith, demand_result_text, ends_text};
-ghost use Rattle.cert_tool.specs.DemandReports.{anchor_ends_text, ends_at_text};
+ghost use Rattle.cert_tool.specs.DemandReports.{anchor_ends_text, end_date, ends_at_text};
 ghost use Rattle.cert_tool.specs.DemandReports.{has_checked_demands, unmet_text};
 ghost use Rattle.cert_tool.specs.Verifying.{IsUnjudgedIf};
 
@@ -52,20 +52,38 @@ fn unmet_text(
     }
 }
 
-// Returns the report on a trusted chain of which this certificate ends soon.
+// Returns the notAfter of the certificate at this index.
+fn end_date(alloc: Global, bundle: &Bundle, place: usize) -> Result<String, AllocError>
+    ensures { IfOk result (λ text. string_bytes text
+        ≡ end_date bundle.now.certificates place) }
+{
+    let Some(entry) = bundle.get(place) else {
+        return Ok(String::new(alloc));
+    };
+    let validity = entry.certificate.tbs_certificate().validity();
+    let date = validity.not_after.to_date_time();
+    format!(in alloc; "{date}")
+}
+
+// Returns the report on a trusted chain of which this certificate ends soon, on this date.
 fn ends_at_text(
     alloc: Global,
     whom: &str,
     place: usize,
+    date: &str,
     calls: u64,
     json: bool,
 ) -> Result<String, AllocError>
-    ensures { IfOk result (λ text. string_bytes text ≡ ends_at_text json whom.now place calls) }
+    ensures { IfOk result (λ text. string_bytes text
+        ≡ ends_at_text json whom.now place date.now calls) }
 {
     if json {
-        format!(in alloc; "{{\"verdict\":\"trusted\",\"calls\":{calls}{whom},\"ends\":{place}}}\n")
+        format!(in alloc;
+            "{{\"verdict\":\"trusted\",\"calls\":{calls}{whom},\"ends\":{place},\
+            \"notAfter\":\"{date}\"}}\n"
+        )
     } else {
-        format!(in alloc; "trusted calls={calls}{whom}\nends {place}\n")
+        format!(in alloc; "trusted calls={calls}{whom}\nends {place} {date}\n")
     }
 }
 
@@ -82,19 +100,24 @@ fn anchor_ends_text(alloc: Global, whom: &str, calls: u64, json: bool) -> Result
     }
 }
 
-// Returns the report on a trusted chain that ends soon. It has the index of the certificate that
-// ends, or `anchor`.
+// Returns the report on a trusted chain that ends soon. It has the index and the notAfter of the
+// certificate that ends, or `anchor`.
 fn ends_text(
     alloc: Global,
     whom: &str,
+    bundle: &Bundle,
     place: Option<usize>,
     calls: u64,
     json: bool,
 ) -> Result<String, AllocError>
-    ensures { IfOk result (λ text. string_bytes text ≡ ends_text json whom.now place calls) }
+    ensures { IfOk result (λ text. string_bytes text
+        ≡ ends_text json whom.now bundle.now.certificates place calls) }
 {
     match place {
-        Some(place) => ends_at_text(alloc, whom, place, calls, json),
+        Some(place) => {
+            let date = end_date(alloc, bundle, place)?;
+            ends_at_text(alloc, whom, place, date.as_str(), calls, json)
+        }
         None => anchor_ends_text(alloc, whom, calls, json),
     }
 }
@@ -119,7 +142,7 @@ fn demand_result_text(
         DemandResult::Unmet(unmet) => unmet_text(alloc, unmet, calls, json, unjudged),
         DemandResult::Ends(place) => {
             let whom = end_entity_with(alloc, bundle, json, unjudged)?;
-            ends_text(alloc, whom.as_str(), place, calls, json)
+            ends_text(alloc, whom.as_str(), bundle, place, calls, json)
         }
     }
 }

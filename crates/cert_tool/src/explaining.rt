@@ -28,7 +28,7 @@ use cert_tool_explain::desk_io::{
 };
 use cert_tool_explain::desk_rules::{Answer, AnswersJudge, Verdict};
 use cert_tool_explain::tool_lines::Lines;
-use cert_tool_explain::{Explained, SignedAnswers, ValidatedChain, add_chain, are_kept};
+use cert_tool_explain::{Report, SignedAnswers, ValidatedChain, add_chain, are_kept};
 use cert_tool_limits::{DemandResult, hold};
 use std::alloc::{AllocError, Global};
 
@@ -40,7 +40,7 @@ fn told(
     judged: &ValidatedChain<'_>,
     held: DemandResult,
     is_json: bool,
-) -> Result<Explained, AllocError>
+) -> Result<Report, AllocError>
     ensures { IfOk result (λ explained. explained.has_remarks ≡ false
         → are_kept judged.now.kept.now ≡ true) }
 {
@@ -49,7 +49,7 @@ fn told(
     add_chain(&mut lines, bundle, judged);
     add_demand_result(&mut lines, held);
     lines.end_list();
-    let explained = Explained::of(lines, are_kept(judged.kept))?;
+    let explained = Report::of(lines, are_kept(judged.kept))?;
     Ok(explained)
 }
 
@@ -89,7 +89,7 @@ fn explained(
     anchor_octets: &[u8],
     terms: &Terms<'_>,
     answers: Vec<Answer>,
-) -> Result<(Explained, DemandResult), AllocError>
+) -> Result<(Report, DemandResult), AllocError>
     requires { length anchor_octets.now ≤ most_octets }
     ensures held { IfOk result (λ p. IsDemandResultIf (are_made terms.now.demands) terms.now
         (only_yes_to (map answer_plain answers.items)) anchor_octets.now bundle.now.certificates
@@ -140,7 +140,7 @@ fn report_no_chain<E: Output>(err: &mut E, outcome: Outcome) -> ExitStatus
 // Writes the explanation of a chain, and returns the exit status: that of the demands, or `Refused`
 // if there are remarks and they are to fail the run.
 fn write_explained_chain<O: Output, E: Output>(
-    explained: &Explained,
+    explained: &Report,
     held: DemandResult,
     fails: bool,
     out: &mut O,

@@ -6,7 +6,7 @@ ghost use Rattle.cert_tool.specs.EarlyEnds.{IsReasonReported};
 
 use crate::help::{command_in, help_of};
 use crate::no_command::no_command_line;
-use crate::parsed_arguments::{ArgumentError, Key};
+use crate::parsed_arguments::{ArgumentError, Key, is_option};
 use crate::shell_words::shell_word;
 use crate::status::Status;
 use crate::tasks::{Misuse, Task};
@@ -82,7 +82,10 @@ fn values_of(key: Key) -> &'static str {
     match key {
         Key::Anchors => "a file of trust anchors",
         Key::Answers => "a file of the lines of `questions` that a verifier kept",
-        Key::At => "now, YYYY-MM-DDTHH:MM:SSZ, or seconds (no milliseconds) from 1970 to 9999",
+        Key::At => {
+            "now, YYYY-MM-DDTHH:MM:SSZ, or seconds since 1970 (not milliseconds) up to the year \
+            9999"
+        }
         Key::Purpose => {
             "serverAuth, clientAuth, codeSigning, emailProtection, timeStamping, OCSPSigning, \
             anyExtendedKeyUsage, or an OID"
@@ -178,11 +181,17 @@ pub(crate) fn report_misuse<E: Output>(
     }
 }
 
+// Returns the end of the options before a file, if its name looks like an option.
+fn end_before(file: &str) -> &'static str {
+    if is_option(file) { "-- " } else { "" }
+}
+
 // Returns a hint: the command that explains why a stream can't be decoded.
 fn stream_hint(alloc: Global, limit: u32, file: &str) -> Result<String, AllocError> {
     match shell_word(alloc, file)? {
-        Some(file) => {
-            format!(in alloc; "(why: cert_tool explain stream --limit {limit} {file})")
+        Some(word) => {
+            let end = end_before(file);
+            format!(in alloc; "(why: cert_tool explain stream --limit {limit} {end}{word})")
         }
         None => {
             format!(in alloc; "(why: cert_tool explain stream --limit {limit}, with this file)")
@@ -193,7 +202,10 @@ fn stream_hint(alloc: Global, limit: u32, file: &str) -> Result<String, AllocErr
 // Returns a hint: the command that explains why trust anchors can't be decoded.
 fn anchors_hint(alloc: Global, file: &str) -> Result<String, AllocError> {
     match shell_word(alloc, file)? {
-        Some(file) => format!(in alloc; "(why: cert_tool explain anchors {file})"),
+        Some(word) => {
+            let end = end_before(file);
+            format!(in alloc; "(why: cert_tool explain anchors {end}{word})")
+        }
         None => format!(in alloc; "(why: cert_tool explain anchors, with this file)"),
     }
 }

@@ -8,8 +8,14 @@ use std::alloc::{AllocError, Global};
 // Returns the kinds that a command takes as its second word.
 fn kinds_of(word: &str) -> Option<&'static str> {
     match word {
-        "describe" => Some("certificate, list, request, stream"),
-        "explain" => Some("certificate, list, request, anchors, stream, chain"),
+        "describe" => Some(
+            "certificate, list, request, ocsp-request, ocsp-response, message, key, timestamp, \
+            stream",
+        ),
+        "explain" => Some(
+            "certificate, list, request, ocsp-request, ocsp-response, message, key, timestamp, \
+            anchors, stream, chain",
+        ),
         _ => None,
     }
 }

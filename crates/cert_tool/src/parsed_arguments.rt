@@ -4,7 +4,7 @@ ghost use Rattle.std.specs.List.{after_first, before_first};
 ghost use Rattle.cert_tool.specs.ParsedArguments.{key_of, value_of, with_value, with_word, is_option};
 ghost use Rattle.cert_tool.specs.ParsedArguments.{takes_no_value, valued_key, is_equals, with_pair, step};
 ghost use Rattle.cert_tool.specs.ParsedArguments.{parse_arguments, arguments_plain, given_read, ended_by};
-ghost use Rattle.cert_tool.specs.ParsedArguments.{no_arguments, read_on};
+ghost use Rattle.cert_tool.specs.ParsedArguments.{is_end, no_arguments, read_on, with_option};
 
 /// An option.
 #[derive(Clone, Copy)]
@@ -53,8 +53,8 @@ pub enum ArgumentError<'a> {
 }
 
 // The parsed arguments: the first three that are neither options nor values, the value of each
-// option, and the option whose value comes next. The value of an option that takes none is the
-// option itself.
+// option, the option whose value comes next, and whether the options have ended. The value of an
+// option that takes none is the option itself.
 #[derive(Clone, Copy)]
 pub(crate) struct ParsedArguments<'a> {
     pub(crate) first: Option<&'a str>,
@@ -74,6 +74,7 @@ pub(crate) struct ParsedArguments<'a> {
     pub(crate) warn_days: Option<&'a str>,
     pub(crate) fail_on_remark: Option<&'a str>,
     awaited: Option<Key>,
+    is_ended: bool,
 }
 
 // Returns the option with this name.
@@ -140,6 +141,13 @@ pub(crate) fn is_option(word: &str) -> bool
     word.starts_with("--")
 }
 
+// Returns whether an argument is `--`, after which there are no options.
+pub(crate) fn is_end(word: &str) -> bool
+    ensures { result ≡ is_end word.now }
+{
+    word == "--"
+}
+
 // Returns the result of parsing no arguments.
 fn no_arguments<'a>() -> ParsedArguments<'a>
     ensures { arguments_plain result ≡ no_arguments }
@@ -162,11 +170,13 @@ fn no_arguments<'a>() -> ParsedArguments<'a>
         warn_days: None,
         fail_on_remark: None,
         awaited: None,
+        is_ended: false,
     }
 }
 
 impl<'a> ParsedArguments<'a> {
     // Returns the value of an option, if one is given.
+    #[inline(always)]
     pub(crate) fn value_of(&self, key: Key) -> Option<&'a str>
         ensures { option_map (λ text. text.now) result ≡ value_of key (arguments_plain self.now) }
     {
@@ -244,18 +254,18 @@ impl<'a> ParsedArguments<'a> {
             }
             return Ok(self.with_value(key, value));
         }
-        if is_option(word) {
-            return Err(ArgumentError::Unknown(word));
-        }
-        self.with_word(word)
+        Err(ArgumentError::Unknown(word))
     }
 
-    // Parses one more argument.
-    fn step(&self, word: &'a str) -> Result<ParsedArguments<'a>, ArgumentError<'a>>
-        ensures { given_read result ≡ step (arguments_plain self.now) word.now }
+    // Returns the arguments with an argument that begins with two dashes: `--`, or an option.
+    fn with_option(&self, word: &'a str) -> Result<ParsedArguments<'a>, ArgumentError<'a>>
+        ensures { given_read result ≡ with_option word.now (arguments_plain self.now) }
     {
-        if let Some(key) = self.awaited {
-            return Ok(self.with_value(key, word));
+        if is_end(word) {
+            return Ok(ParsedArguments {
+                is_ended: true,
+                ..*self
+            });
         }
         if let Some(key) = key_of(word) {
             if self.value_of(key).is_some() {
@@ -270,6 +280,22 @@ impl<'a> ParsedArguments<'a> {
             });
         }
         self.with_pair(word)
+    }
+
+    // Parses one more argument.
+    fn step(&self, word: &'a str) -> Result<ParsedArguments<'a>, ArgumentError<'a>>
+        ensures { given_read result ≡ step (arguments_plain self.now) word.now }
+    {
+        if let Some(key) = self.awaited {
+            return Ok(self.with_value(key, word));
+        }
+        if self.is_ended {
+            return self.with_word(word);
+        }
+        if is_option(word) {
+            return self.with_option(word);
+        }
+        self.with_word(word)
     }
 
     // Returns the arguments, or the error for an option whose value is missing at the end.

@@ -10,6 +10,11 @@ fn wanted_text(wanted: Wanted) -> &'static str {
         Wanted::Certificates | Wanted::LeafFirst | Wanted::Anchors => "a certificate is wanted",
         Wanted::List => "a CRL is wanted",
         Wanted::Request => "a CSR is wanted",
+        Wanted::OcspRequest => "an OCSP request is wanted",
+        Wanted::OcspResponse => "an OCSP response is wanted",
+        Wanted::Message => "a CMS message is wanted",
+        Wanted::Key => "a private key is wanted",
+        Wanted::Timestamp => "a timestamp response is wanted, and only in DER",
         Wanted::Lines => "lines of text are wanted",
     }
 }
@@ -49,25 +54,34 @@ fn has_lost_ends(text: &[u8], number: u64) -> bool {
     }
 }
 
-// Returns whether a text has a certificate in PEM.
-fn has_certificate(text: &[u8]) -> bool {
+// Returns whether a text has this line, or this end of a line, of PEM.
+fn has_line(text: &[u8], line: &str) -> bool {
     match str::from_utf8(text) {
-        Ok(text) => text.contains("-----BEGIN CERTIFICATE-----"),
+        Ok(text) => text.contains(line),
         Err(_) => false,
     }
 }
 
 // Returns what to do with a file that has a block with this label.
-fn step_for(label: &str, text: &[u8]) -> &'static str {
+fn step_for(label: &str, wanted: Wanted, text: &[u8]) -> &'static str {
+    if matches!(wanted, Wanted::Key) && has_line(text, "PRIVATE KEY-----") {
+        return " (`openssl pkey -in FILE` writes its private key)";
+    }
     match label {
         "CERTIFICATE" | "X509 CERTIFICATE" => " (`cert_tool describe certificate FILE`)",
         "X509 CRL" => " (`cert_tool describe list FILE`)",
         "CERTIFICATE REQUEST" | "NEW CERTIFICATE REQUEST" => {
             " (`cert_tool describe request FILE`)"
         }
+        "OCSP REQUEST" => " (`cert_tool describe ocsp-request FILE`)",
+        "OCSP RESPONSE" => " (`cert_tool describe ocsp-response FILE`)",
+        "CMS" => " (`cert_tool describe message FILE`)",
         "PKCS7" => " (`openssl pkcs7 -in FILE -print_certs` writes its certificates)",
         "TRUSTED CERTIFICATE" => " (`openssl x509 -in FILE` writes its certificate)",
-        _ if has_certificate(text) => " (`openssl x509 -in FILE` writes its certificate)",
+        _ if has_line(text, "-----BEGIN CERTIFICATE-----") => {
+            " (`openssl x509 -in FILE` writes its certificate)"
+        }
+        "PRIVATE KEY" | "ENCRYPTED PRIVATE KEY" => " (`cert_tool describe key FILE`)",
         _ => "",
     }
 }
@@ -85,15 +99,17 @@ fn other_line(
             "{name:?}, line {number}: the BEGIN line has more than a label; put line ends back"
         );
     }
-    let wanted = wanted_text(wanted);
+    let what = wanted_text(wanted);
     match printed_label(text, number) {
         Some(label) => {
-            let (article, step) = (article_of(label), step_for(label, text));
+            let (article, step) = (article_of(label), step_for(label, wanted, text));
             format!(in alloc;
-                "{name:?}, line {number}: the file has {article} {label}; {wanted}{step}"
+                "{name:?}, line {number}: the file has {article} {label}; {what}{step}"
             )
         }
-        None => format!(in alloc; "{name:?}, line {number}: the file has another block; {wanted}"),
+        None => format!(in alloc;
+            "{name:?}, line {number}: the file has a block of another kind; {what}"
+        ),
     }
 }
 

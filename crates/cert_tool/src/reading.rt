@@ -3,23 +3,25 @@
 ghost use Rattle.std.specs.Prelude.{◌≡◌, ◌≤◌, false, IfOk, IfErr, OnOk};
 ghost use Rattle.cert_tool_explain.specs.DeskIo.Devices.{sink, source};
 ghost use Rattle.cert_tool_explain.specs.DeskIo.NamedInputs.{inputs};
+ghost use Rattle.cert_tool.specs.Describing.{IsDescribed};
 ghost use Rattle.cert_tool.specs.Explaining.{IsUnreadReported, IsTextWritten, IsStatusBy};
+ghost use Rattle.cert_tool.specs.Kinds.{IsOfKind};
 ghost use Rattle.cert_tool.specs.NamedFiles.{OnNamedFile};
 ghost use Rattle.cert_tool.specs.OneValue.{IsReadIf};
-ghost use Rattle.cert_tool.specs.TaskRuns.{IsFileDescribed, IsFileExplained, IsUnreadable, of_kind};
+ghost use Rattle.cert_tool.specs.TaskRuns.{IsFileDescribed, IsFileExplained, IsUnreadable};
 ghost use Rattle.cert_tool.specs.TaskRuns.{IsValidFile, takes_one, wanted_of, whole_file};
 
+use crate::file_reports::report_on_kind;
 use crate::files::{open, report_failure};
 use crate::host_files::ErrorReasons;
+use crate::kinds::Kind;
 use crate::one_value::read_if;
 use crate::tasks::{Command, Task};
 use cert_tool_explain::desk_io::{
     ExitStatus, Input, NamedInputs, Output, ReadAllError, answer, complain, tell_device,
     tell_memory,
 };
-use cert_tool_explain::{
-    Explained, Kind, describe, explain_anchors, explain_octets, explain_stream,
-};
+use cert_tool_explain::{Contents, Report, explain_anchors, explain_stream};
 use cert_tool_pem::Wanted;
 use std::alloc::{AllocError, Global};
 
@@ -49,24 +51,13 @@ pub(crate) fn read_input<I: Input, E: Output>(
     }
 }
 
-// Returns what a file of this kind must contain.
-fn of_kind(kind: Kind) -> Wanted
-    ensures { result ≡ of_kind kind }
-{
-    match kind {
-        Kind::Certificate => Wanted::Certificates,
-        Kind::List => Wanted::List,
-        Kind::Request => Wanted::Request,
-    }
-}
-
 // Returns what the file of a command must contain.
 fn wanted_of(command: Command) -> Wanted
     ensures { result ≡ wanted_of command }
 {
     match command {
-        Command::Describe(kind) => of_kind(kind),
-        Command::Explain(kind) => of_kind(kind),
+        Command::Describe(kind) => kind.wanted(),
+        Command::Explain(kind) => kind.wanted(),
         Command::ExplainAnchors => Wanted::Anchors,
         _ => Wanted::Certificates,
     }
@@ -113,6 +104,35 @@ pub(crate) fn status_by(fails: bool, has_remarks: bool) -> ExitStatus
     }
 }
 
+// Writes the description of a file of this kind, or reports why its bytes can't be decoded, and
+// returns the exit status.
+fn describe<O: Output, E: Output>(
+    alloc: Global,
+    kind: Kind,
+    octets: &[u8],
+    task: &Task<'_>,
+    out: &mut O,
+    err: &mut E,
+) -> ExitStatus
+    ensures described { IsDescribed (IsOfKind kind octets.now)
+        (sink O.gives O.failures out.old out.new) (sink E.gives E.failures err.old err.new) result }
+{
+    let contents = Contents::Description {
+        has_digests: task.digests,
+    };
+    match report_on_kind(alloc, kind, octets, contents, task.json) {
+        Ok(report) => {
+            let text = report.text.as_slice();
+            if report.is_valid {
+                answer(out, err, text, ExitStatus::Done)
+            } else {
+                complain(err, text, ExitStatus::Faulty)
+            }
+        }
+        Err(_) => tell_memory(err),
+    }
+}
+
 // Runs `describe KIND`.
 pub(crate) fn describe_file<
     I: Input + Drop,
@@ -126,27 +146,22 @@ pub(crate) fn describe_file<
         task.now result }
 {
     match read_file(alloc, files, task, err) {
-        Ok(octets) => describe(
-            alloc,
-            kind,
-            octets.as_slice(),
-            task.json,
-            task.digests,
-            out,
-            err,
-        ),
+        Ok(octets) => describe(alloc, kind, octets.as_slice(), task, out, err),
         Err(status) => status,
     }
 }
 
 // Returns the explanation of a file's bytes that the task asks for.
-fn explanation(alloc: Global, octets: &[u8], task: &Task<'_>) -> Result<Explained, AllocError>
+fn explanation(alloc: Global, octets: &[u8], task: &Task<'_>) -> Result<Report, AllocError>
     requires { 6 ≤ task.now.limit }
-    ensures { IfOk result (λ explained. explained.has_remarks ≡ false
+    ensures { IfOk result (λ report. report.has_remarks ≡ false
         → IsValidFile task.now.command octets.now) }
 {
     match task.command {
-        Command::Explain(kind) => explain_octets(alloc, octets, kind, task.json),
+        Command::Explain(kind) => {
+            let report = report_on_kind(alloc, kind, octets, Contents::Remarks, task.json)?;
+            Ok(report)
+        }
         Command::ExplainAnchors => explain_anchors(alloc, octets, task.json),
         _ => explain_stream(alloc, octets, task.limit, task.json),
     }
@@ -165,9 +180,9 @@ fn write_explanation<O: Output, E: Output>(
         (sink O.gives O.failures out.old out.new) (sink E.gives E.failures err.old err.new) result }
 {
     match explanation(alloc, octets, task) {
-        Ok(explained) => {
-            let status = status_by(task.fails_on_remark, explained.has_remarks);
-            answer(out, err, explained.text.as_slice(), status)
+        Ok(report) => {
+            let status = status_by(task.fails_on_remark, report.has_remarks);
+            answer(out, err, report.text.as_slice(), status)
         }
         Err(_) => tell_memory(err),
     }

@@ -1,18 +1,20 @@
 //! Runs the command that the arguments of `cert_tool` ask for.
 
 ghost use Rattle.std.specs.Prelude.{◌≡◌, ◌≤◌, ◌++◌, map, OnErr, OnOk};
-ghost use Rattle.std.specs.List.{list_any};
 ghost use Rattle.cert_tool_explain.specs.DeskIo.Devices.{IsCut, IsWritten, sink};
 ghost use Rattle.cert_tool_explain.specs.DeskIo.NamedInputs.{inputs};
 ghost use Rattle.cert_tool_explain.specs.DeskIo.Telling.{IsAnswer};
 ghost use Rattle.cert_tool.specs.Help.{is_version, program_text};
-ghost use Rattle.cert_tool.specs.TaskRuns.{is_help_or_version, IsTaskRun, AreArgumentsRun};
+ghost use Rattle.cert_tool.specs.ParsedArguments.{any_before_end};
+ghost use Rattle.cert_tool.specs.TaskRuns.{AreArgumentsRun, IsTaskRun, any_help_or_version};
+ghost use Rattle.cert_tool.specs.TaskRuns.{is_help_or_version};
 
 use crate::chains::{ask, explain, verify};
 use crate::clock::UnixClock;
 use crate::help::{ARGUMENTS, VERSION, help_of};
 use crate::host_files::ErrorReasons;
 use crate::messages::report_misuse;
+use crate::parsed_arguments::is_end;
 use crate::reading::{describe_file, explain_file};
 use crate::status::Status;
 use crate::streams::{describe_each, reverse, split};
@@ -29,11 +31,17 @@ fn is_help_or_version(word: &str) -> bool
     word == "--help" || word == "-h" || word == "--version"
 }
 
-// Returns whether one of the arguments asks for help or for the version.
+// Returns whether one of the arguments before `--` asks for help or for the version.
 pub(crate) fn any_help_or_version(words: &[&str]) -> bool
-    ensures { result ≡ list_any (λ word. is_help_or_version word.now) words.now }
+    ensures { result ≡ any_help_or_version (map (λ word. word.now) words.now) }
 {
-    words.iter().any(|word| is_help_or_version(word))
+    let [word, rest @ ..] = words else {
+        return false;
+    };
+    if is_end(word) {
+        return false;
+    }
+    is_help_or_version(word) || any_help_or_version(rest)
 }
 
 // Returns whether an argument asks for the version.
@@ -43,11 +51,17 @@ fn is_version(word: &str) -> bool
     word == "--version"
 }
 
-// Returns whether one of the arguments asks for the version.
+// Returns whether one of the arguments before `--` asks for the version.
 fn any_version(words: &[&str]) -> bool
-    ensures { result ≡ list_any (λ word. is_version word.now) words.now }
+    ensures { result ≡ any_before_end is_version (map (λ word. word.now) words.now) }
 {
-    words.iter().any(|word| is_version(word))
+    let [word, rest @ ..] = words else {
+        return false;
+    };
+    if is_end(word) {
+        return false;
+    }
+    is_version(word) || any_version(rest)
 }
 
 // Returns the text of `--help` or `--version`, in two parts that are written one after the other.
@@ -144,8 +158,7 @@ pub fn obey<C: UnixClock, I: Input + Drop, F: NamedInputs<I> + ErrorReasons, O: 
     ensures obeyed { AreArgumentsRun (C.tells clock.now)
         (inputs I.takes I.is_ended I.failures (F.is_opened files.now) (F.is_unopened files.now))
         (sink O.gives O.failures out.old out.new) (sink E.gives E.failures err.old err.new)
-        (map (λ word. word.now) words.now)
-        (list_any (λ word. is_help_or_version word.now) words.now) result }
+        (map (λ word. word.now) words.now) result }
 {
     if any_help_or_version(words) {
         return Status::Exit(write_program_text(words, out, err));

@@ -2,7 +2,6 @@
 
 ghost use Rattle.std.specs.Prelude.{◌≡◌, ◌≤◌, ◌++◌, [], map, option_map, is_some, IfOk, OnOk};
 ghost use Rattle.std.specs.Prelude.{false};
-ghost use Rattle.std.specs.List.{list_any};
 ghost use Rattle.cert_tool_explain.specs.DeskIo.Devices.{sink};
 ghost use Rattle.cert_tool_explain.specs.DeskIo.NamedInputs.{inputs};
 ghost use Rattle.cert_tool.specs.ParsedArguments.{valued_key};
@@ -10,12 +9,11 @@ ghost use Rattle.cert_tool.specs.SeveralFiles.{AreFilesRun, AreKindRun, AreWords
 ghost use Rattle.cert_tool.specs.SeveralFiles.{IsOneRun, IsRunHeaded, first_error, for_file, is_misuse};
 ghost use Rattle.cert_tool.specs.SeveralFiles.{is_describe, options_in, several_after, several_in};
 ghost use Rattle.cert_tool.specs.SeveralFiles.{several_plain, with_files, words_in};
-ghost use Rattle.cert_tool.specs.TaskRuns.{is_help_or_version};
 
 use crate::clock::UnixClock;
 use crate::host_files::ErrorReasons;
 use crate::messages::{line_with, report_misuse, tell};
-use crate::parsed_arguments::{is_option, valued_key};
+use crate::parsed_arguments::{is_end, is_option, valued_key};
 use crate::running::{any_help_or_version, obey, run_task};
 use crate::status::Status;
 use crate::tasks::Task;
@@ -66,6 +64,10 @@ impl<'a> Several<'a> {
             self.add(false, rest)?;
             return Ok(());
         }
+        if is_end(word) {
+            self.words.extend_from_slice(rest)?;
+            return Ok(());
+        }
         if is_option(word) {
             self.options.push(word)?;
             self.add(awaits_value(word), rest)?;
@@ -88,19 +90,12 @@ impl<'a> Several<'a> {
     }
 }
 
-// Returns whether one of the arguments asks for help or for the version.
-fn asks_for_help(words: &[&str]) -> bool
-    ensures { result ≡ list_any is_help_or_version (map (λ word. word.now) words.now) }
-{
-    any_help_or_version(words)
-}
-
 // Returns the arguments after `describe` if they name several files and don't ask for help.
 fn several_after<'a>(alloc: Global, words: &[&'a str]) -> Result<Option<Several<'a>>, AllocError>
     ensures { IfOk result (λ found. option_map several_plain found
         ≡ several_after (map (λ word. word.now) words.now)) }
 {
-    if asks_for_help(words) {
+    if any_help_or_version(words) {
         return Ok(None);
     }
     let mut several = Several::new(alloc);
@@ -141,9 +136,10 @@ fn for_file<'a>(
 {
     let mut words = Vec::new(alloc);
     words.push("describe")?;
+    words.extend_from_slice(options)?;
+    words.push("--")?;
     words.push(kind)?;
     words.push(file)?;
-    words.extend_from_slice(options)?;
     Ok(words)
 }
 

@@ -5,7 +5,7 @@ ghost use Rattle.std.specs.Prelude.{unwrap_or, is_some};
 ghost use Rattle.cert_tool.specs.ParsedArguments.{arguments_plain, value_of};
 ghost use Rattle.cert_tool.specs.Tasks.{kind_of, of_word, of_described, of_explained};
 ghost use Rattle.cert_tool.specs.Tasks.{of_words, judges, asks, reads_stream, need_of, Keeps};
-ghost use Rattle.cert_tool.specs.Tasks.{KeepsAll, KeepsEach, IsTask, IsOptionError, AsksFor};
+ghost use Rattle.cert_tool.specs.Tasks.{KeepsAll, IsTask, IsOptionError, AsksFor};
 ghost use Rattle.cert_tool.specs.Tasks.{is_standard_input, shares_input, IsPlace, IsWrongValue};
 ghost use Rattle.cert_tool.specs.Tasks.{command_in, plain_command, describes, tells};
 ghost use Rattle.cert_tool.specs.Tasks.{is_bytes_in_json, IsMisuse, IsTimeText, IsPurpose};
@@ -13,9 +13,9 @@ ghost use Rattle.cert_tool.specs.Tasks.{IsLimit, time_text, purpose_text, limit_
 ghost use Rattle.cert_tool.specs.Tasks.{IsDays, IsHostOf, remarks, verifies};
 ghost use Rattle.cert_tool_explain.specs.DeskChecking.Arguments.{IsNumber};
 
+use crate::kinds::Kind;
 use crate::option_values::{Moment, parse_time, purpose_in};
 use crate::parsed_arguments::{ArgumentError, Key, ParsedArguments, parse_arguments};
-use cert_tool_explain::Kind;
 use cert_tool_explain::desk_checking::{limit_in, number_in};
 use cert_tool_explain::oid::ObjectIdentifier;
 use cert_tool_limits::Demands;
@@ -115,6 +115,11 @@ fn kind_of(word: &str) -> Option<Kind>
         "certificate" => Some(Kind::Certificate),
         "list" => Some(Kind::List),
         "request" => Some(Kind::Request),
+        "ocsp-request" => Some(Kind::OcspRequest),
+        "ocsp-response" => Some(Kind::OcspResponse),
+        "message" => Some(Kind::Message),
+        "key" => Some(Kind::Key),
+        "timestamp" => Some(Kind::Timestamp),
         _ => None,
     }
 }
@@ -247,6 +252,7 @@ impl Command {
     }
 
     // Returns whether the command takes this option.
+    #[inline(always)]
     fn need_of(self, key: Key) -> Need
         ensures { result ≡ need_of self key }
     {
@@ -269,7 +275,8 @@ impl Command {
     }
 
     // Checks one option: it is given if it is required, and not given if the command doesn't take
-    // it.
+    // it. The function is inlined, because each call has a constant key.
+    #[inline(always)]
     fn keeps<'a>(self, file: &str, given: &ParsedArguments<'a>, key: Key) -> Result<(), Misuse<'a>>
         ensures kept { OnOk result (Keeps self (arguments_plain given.now) key) }
         ensures amiss { IfErr result (λ misuse.
@@ -292,49 +299,26 @@ impl Command {
         Ok(())
     }
 
-    // Checks each of these options.
-    fn keeps_each<'a>(
-        self,
-        file: &str,
-        given: &ParsedArguments<'a>,
-        keys: &[Key],
-    ) -> Result<(), Misuse<'a>>
-        ensures kept { OnOk result (KeepsEach self (arguments_plain given.now) keys.now) }
-        ensures amiss { IfErr result (λ misuse.
-            IsOptionError self file.now (arguments_plain given.now) misuse) }
-    {
-        let [key, rest @ ..] = keys else {
-            return Ok(());
-        };
-        self.keeps(file, given, *key)?;
-        self.keeps_each(file, given, rest)
-    }
-
     // Checks all options.
     fn keeps_all<'a>(self, file: &str, given: &ParsedArguments<'a>) -> Result<(), Misuse<'a>>
         ensures kept { OnOk result (KeepsAll self (arguments_plain given.now)) }
         ensures amiss { IfErr result (λ misuse.
             IsOptionError self file.now (arguments_plain given.now) misuse) }
     {
-        self.keeps_each(
-            file,
-            given,
-            &[
-                Key::Anchors,
-                Key::Answers,
-                Key::At,
-                Key::Purpose,
-                Key::Limit,
-                Key::Place,
-                Key::Json,
-                Key::Digests,
-                Key::LeafFirst,
-                Key::Strict,
-                Key::Host,
-                Key::WarnDays,
-                Key::FailOnRemark,
-            ],
-        )
+        self.keeps(file, given, Key::Anchors)?;
+        self.keeps(file, given, Key::Answers)?;
+        self.keeps(file, given, Key::At)?;
+        self.keeps(file, given, Key::Purpose)?;
+        self.keeps(file, given, Key::Limit)?;
+        self.keeps(file, given, Key::Place)?;
+        self.keeps(file, given, Key::Json)?;
+        self.keeps(file, given, Key::Digests)?;
+        self.keeps(file, given, Key::LeafFirst)?;
+        self.keeps(file, given, Key::Strict)?;
+        self.keeps(file, given, Key::Host)?;
+        self.keeps(file, given, Key::WarnDays)?;
+        self.keeps(file, given, Key::FailOnRemark)?;
+        Ok(())
     }
 }
 
@@ -458,6 +442,7 @@ fn days_in<'a>(given: &ParsedArguments<'a>) -> Result<Option<u32>, &'a str>
 }
 
 // Returns whether an option is given.
+#[inline(always)]
 fn is_given(given: &ParsedArguments<'_>, key: Key) -> bool
     ensures { result ≡ is_some (value_of key (arguments_plain given.now)) }
 {

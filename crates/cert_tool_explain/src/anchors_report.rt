@@ -1,9 +1,7 @@
 //! Explains why bytes aren't trust anchors.
 
 use crate::anchors::{Scope, add_anchor_fault, add_unchecked, begin_anchor};
-use crate::explained::Explained;
-use crate::is_pem;
-use crate::stream_report::PEM_STREAM;
+use crate::report::Report;
 use cert_desk_checking::desk_io::FromRead;
 use cert_desk_checking::{AnchorFault, AnchorsError, read_anchors};
 use cert_tool_describe::tool_lines::Lines;
@@ -42,10 +40,6 @@ fn count_anchors(alloc: Global, octets: &[u8]) -> Result<usize, AnchorsError> {
 
 // Adds the explanation of a file of trust anchors, and returns whether it can be decoded.
 fn add_anchors(lines: &mut Lines, octets: &[u8]) -> bool {
-    if is_pem(octets) {
-        lines.finding(PEM_STREAM);
-        return false;
-    }
     match count_anchors(lines.alloc, octets) {
         Ok(count) => {
             lines.entry("trust anchors:");
@@ -65,14 +59,10 @@ fn add_anchors(lines: &mut Lines, octets: &[u8]) -> bool {
 
 /// Returns why bytes aren't a sequence of trust anchors, each with a name and a key: the first
 /// error and its offset. If they are, returns which of their fields aren't checked.
-pub fn explain_anchors(
-    alloc: Global,
-    octets: &[u8],
-    is_json: bool,
-) -> Result<Explained, AllocError> {
+pub fn explain_anchors(alloc: Global, octets: &[u8], is_json: bool) -> Result<Report, AllocError> {
     let mut lines = Lines::new(alloc, is_json);
     lines.list("findings");
     let is_valid = add_anchors(&mut lines, octets);
     lines.end_list();
-    Explained::of(lines, is_valid)
+    Report::of(lines, is_valid)
 }

@@ -1,6 +1,7 @@
 //! Prints decoding errors: the offset, the reason and the enclosing fields.
 
 use crate::error_reasons::words_of;
+use crate::format_hints::{format_hint, is_signed_data};
 use cert_tool_describe::der::{Error, ErrorKind, Tag};
 use cert_tool_describe::tool_lines::Lines;
 use cert_tool_describe::{
@@ -14,6 +15,12 @@ fn alone(node: Node) -> &'static [Part] {
         Node::Certificate => &[(Some(0x30), false, "", Node::Certificate)],
         Node::List => &[(Some(0x30), false, "", Node::List)],
         Node::Request => &[(Some(0x30), false, "", Node::Request)],
+        Node::OcspRequest => &[(Some(0x30), false, "", Node::OcspRequest)],
+        Node::OcspResponse => &[(Some(0x30), false, "", Node::OcspResponse)],
+        Node::Message => &[(Some(0x30), false, "", Node::Message)],
+        Node::Key => &[(Some(0x30), false, "", Node::Key)],
+        Node::EncryptedKey => &[(Some(0x30), false, "", Node::EncryptedKey)],
+        Node::Timestamp => &[(Some(0x30), false, "", Node::Timestamp)],
         Node::Anchor => &[(None, false, "", Node::Anchor)],
         _ => &[],
     }
@@ -255,25 +262,6 @@ fn is_first_of_several(octets: &[u8], error: &Error) -> bool {
     }
 }
 
-// The identifier of signedData (RFC 5652 5.1), with which a file of PKCS #7 begins.
-const SIGNED_DATA: &[u8] = &[6, 9, 0x2a, 0x86, 0x48, 0x86, 0xf7, 0x0d, 1, 7, 2];
-
-/// Returns a hint at the format of a file that isn't a certificate, a CRL or a CSR in DER, or an
-/// empty text.
-pub fn format_hint(octets: &[u8]) -> &'static str {
-    match octets {
-        [b'M', b'I', ..] =>
-            "(this looks like base64 without BEGIN and END lines; `base64 -d FILE` decodes it)",
-        [0xff, 0xfe, ..] | [0xfe, 0xff, ..] => {
-            "(this looks like UTF-16; `iconv -f UTF-16 -t UTF-8 FILE` converts it)"
-        }
-        _ if content_at(octets, 0).starts_with(SIGNED_DATA) => {
-            "(PKCS #7; `openssl pkcs7 -inform DER -in FILE -print_certs` prints the certificates)"
-        }
-        _ => "",
-    }
-}
-
 /// Adds an error in a value that begins at this offset of the file, and the enclosing values.
 pub fn add_fault(lines: &mut Lines, octets: &[u8], offset: u64, kind: Node, error: &Error) {
     if octets.is_empty() {
@@ -285,10 +273,11 @@ pub fn add_fault(lines: &mut Lines, octets: &[u8], offset: u64, kind: Node, erro
         Ok(way) => add_members(lines, octets, offset, error.kind, &way),
         Err(_) => lines.fail(),
     }
-    let hint = match (kind, is_first_of_several(octets, error)) {
-        (Node::Certificate, true) => {
+    let hint = match kind {
+        Node::Certificate if is_first_of_several(octets, error) => {
             "(the file has several certificates; `cert_tool split FILE` lists them)"
         }
+        Node::Message if is_signed_data(octets) => "",
         _ => format_hint(octets),
     };
     if !hint.is_empty() {

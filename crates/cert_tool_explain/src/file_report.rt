@@ -1,158 +1,120 @@
-//! The command `explain KIND`: prints why a file can't be decoded.
+//! Reports on a file that should be one value: what it contains, or why it can't be decoded.
 
 ghost use Rattle.std.specs.Prelude.{◌≡◌, true, false, IfOk};
-ghost use Rattle.cert_tool_explain.specs.Describing.{IsOfKind};
+ghost use Rattle.cert_tool_explain.specs.Reports.{IsReportOn};
 
-use crate::certificate_remarks::add_lone_remarks;
 use crate::error_lines::add_fault;
-use crate::explained::Explained;
-use crate::kind::Kind;
-use crate::list_remarks::add_list_remarks;
-use cert_tool_describe::cert_certificates::CertificateInner;
-use cert_tool_describe::cert_lists::{CertReq, CertificateList};
-use cert_tool_describe::cert_parts::Raw;
+use crate::remarked::Remarked;
+use crate::report::Report;
+use cert_tool_describe::der::{Error, ErrorKind};
 use cert_tool_describe::tool_lines::Lines;
 use cert_tool_describe::{DescribeFile, Node};
 use std::alloc::{AllocError, Global};
 
-// The maximum number of bytes that are searched for the first line of PEM.
-const MOST_TEXT: usize = 65536;
-
-// The beginning of a line of PEM.
-const PEM_MARK: &[u8] = b"-----BEGIN ";
-
-// Returns whether a text may contain this byte.
-fn is_of_text(octet: u8) -> bool {
-    octet >= b' ' || octet == b'\t' || octet == b'\n' || octet == b'\r'
+/// What a report on a file contains, unless the file is malformed.
+#[derive(Clone, Copy)]
+pub enum Contents {
+    /// The description of the value, with digests of its encoding and of its key if `has_digests`.
+    Description {
+        /// Whether there are digests.
+        has_digests: bool,
+    },
+    /// The remarks on the value.
+    Remarks,
 }
 
-// Returns the bytes after a UTF-8 byte order mark, if they begin with one.
-fn without_mark(octets: &[u8]) -> &[u8] {
-    match octets {
-        [0xef, 0xbb, 0xbf, rest @ ..] => rest,
-        _ => octets,
-    }
+/// How reports name a kind of file.
+#[derive(Clone, Copy)]
+pub struct FileKind {
+    /// The outermost value, with which the path to an error begins.
+    pub node: Node,
+    /// The line for a file without an error.
+    pub valid: &'static str,
 }
 
-/// Returns whether bytes look like PEM (RFC 7468): they have a BEGIN line, and only text before it.
-/// The result is a hint: no clause says when it is true.
-pub fn is_pem(octets: &[u8]) -> bool {
-    let mut rest = without_mark(octets);
-    let mut begins_line = true;
-    for _ in 0..MOST_TEXT {
-        if begins_line && rest.starts_with(PEM_MARK) {
-            return true;
-        }
-        match rest {
-            [octet, behind @ ..] if is_of_text(*octet) => {
-                begins_line = *octet == b'\n' || *octet == b'\r';
-                rest = behind;
-            }
-            _ => return false,
-        }
-    }
-    false
-}
-
-// A value that a file contains and that can have remarks.
-trait Remarked {
-    // Adds the remarks on the value that these bytes encode.
-    fn add_remarks<'a>(&'a self, lines: &mut Lines, octets: &'a [u8]);
-}
-
-impl Remarked for CertificateInner<Raw> {
-    fn add_remarks<'a>(&'a self, lines: &mut Lines, octets: &'a [u8]) {
-        add_lone_remarks(lines, octets, self);
-    }
-}
-
-impl Remarked for CertificateList<Raw> {
-    fn add_remarks<'a>(&'a self, lines: &mut Lines, octets: &'a [u8]) {
-        add_list_remarks(lines, octets, self);
-    }
-}
-
-impl Remarked for CertReq {
-    fn add_remarks<'a>(&'a self, _lines: &mut Lines, _octets: &'a [u8]) {}
-}
-
-// Returns the OpenSSL command that converts PEM to DER.
-fn pem_hint(kind: Kind) -> &'static str {
-    match kind {
-        Kind::Certificate => {
-            "the file is PEM, not DER; to convert it: `openssl x509 -in FILE -outform DER`"
-        }
-        Kind::List =>
-            "the file is PEM, not DER; to convert it: `openssl crl -in FILE -outform DER`",
-        Kind::Request =>
-            "the file is PEM, not DER; to convert it: `openssl req -in FILE -outform DER`",
-    }
-}
-
-// Adds the explanation of a file of one type, and returns whether it can be decoded. `valid` is
-// printed if it can. The function is generic because the proof of a function that holds a
-// certificate takes long.
-fn add_findings_of<T: DescribeFile + Remarked + Drop>(
-    lines: &mut Lines,
-    octets: &[u8],
-    node: Node,
-    valid: &str,
-) -> bool
-    ensures { result ≡ true → T.is_spelled octets.now }
-{
-    match T::read_file(lines.alloc, octets) {
-        Ok(value) => {
-            lines.finding(valid);
-            value.add_remarks(lines, octets);
-            true
-        }
-        Err(error) => {
-            add_fault(lines, octets, 0, node, &error);
-            false
-        }
-    }
-}
-
-// Adds the explanation of a file of this kind, and returns whether it can be decoded.
-fn add_findings(lines: &mut Lines, octets: &[u8], kind: Kind) -> bool
-    ensures { result ≡ true → IsOfKind kind octets.now }
-{
-    if is_pem(octets) {
-        lines.finding(pem_hint(kind));
-        return false;
-    }
-    match kind {
-        Kind::Certificate => {
-            let valid = "no error: the file is a certificate";
-            add_findings_of::<CertificateInner<Raw>>(lines, octets, Node::Certificate, valid)
-        }
-        Kind::List => {
-            let valid = "no error: the file is a CRL";
-            add_findings_of::<CertificateList<Raw>>(lines, octets, Node::List, valid)
-        }
-        Kind::Request => {
-            let valid = "no error: the file is a CSR";
-            add_findings_of::<CertReq>(lines, octets, Node::Request, valid)
-        }
-    }
-}
-
-/// Returns why the bytes can't be decoded as a value of this kind: the first error, its offset, and
-/// the enclosing fields, the outermost first. If they can be decoded, returns the remarks. An
-/// explanation without remarks is that of a valid file.
-pub fn explain_octets(
+// Returns the report on a value that these bytes encode.
+fn report_on_value<T: DescribeFile + Remarked>(
     alloc: Global,
     octets: &[u8],
-    kind: Kind,
+    value: &T,
+    valid: &str,
+    contents: Contents,
     is_json: bool,
-) -> Result<Explained, AllocError>
-    ensures valid { IfOk result (λ explained. explained.has_remarks ≡ false
-        → IsOfKind kind octets.now) }
+) -> Result<Report, AllocError>
+    ensures { IfOk result (λ report. report.is_valid ≡ true) }
 {
     let mut lines = Lines::new(alloc, is_json);
+    match contents {
+        Contents::Description { has_digests } => {
+            lines.has_digests = has_digests;
+            value.describe_file(&mut lines, octets);
+        }
+        Contents::Remarks => {
+            lines.list("findings");
+            lines.finding(valid);
+            value.add_remarks(&mut lines, octets);
+            lines.end_list();
+        }
+    }
+    let report = Report::of(lines, true)?;
+    Ok(report)
+}
+
+// Returns the report on an error of the value `node`. A report that takes the place of a
+// description is never JSON.
+fn report_on_error(
+    alloc: Global,
+    octets: &[u8],
+    node: Node,
+    error: &Error,
+    contents: Contents,
+    is_json: bool,
+) -> Result<Report, AllocError>
+    ensures valid { IfOk result (λ report. report.is_valid ≡ false) }
+    ensures remarks { IfOk result (λ report. report.has_remarks ≡ true) }
+{
+    let is_json = is_json && matches!(contents, Contents::Remarks);
+    let mut lines = Lines::new(alloc, is_json);
     lines.list("findings");
-    let is_valid = add_findings(&mut lines, octets, kind);
+    add_fault(&mut lines, octets, 0, node, error);
     lines.end_list();
-    let explained = Explained::of(lines, is_valid)?;
-    Ok(explained)
+    let text = lines.finish()?;
+    Ok(Report {
+        text,
+        is_valid: false,
+        has_remarks: true,
+    })
+}
+
+/// Returns a report on bytes that should be the encoding of a value of type `T`. If they aren't,
+/// the report has the error, its offset, and the enclosing fields, the outermost first.
+///
+/// No clause states the text. `has_remarks` is also true for an error. So if it is false, the bytes
+/// are the encoding of a value.
+///
+/// # Errors
+///
+/// Fails if an allocation fails.
+pub fn report_on<T: DescribeFile + Remarked + Drop>(
+    alloc: Global,
+    octets: &[u8],
+    kind: FileKind,
+    contents: Contents,
+    is_json: bool,
+) -> Result<Report, AllocError>
+    ensures { IfOk result (IsReportOn (T.is_spelled octets.now)) }
+{
+    match T::read_file(alloc, octets) {
+        Ok(value) => {
+            let report = report_on_value(alloc, octets, &value, kind.valid, contents, is_json)?;
+            Ok(report)
+        }
+        Err(error) => match error.kind {
+            ErrorKind::OutOfMemory => Err(AllocError),
+            _ => {
+                let report = report_on_error(alloc, octets, kind.node, &error, contents, is_json)?;
+                Ok(report)
+            }
+        },
+    }
 }

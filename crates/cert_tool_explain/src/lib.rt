@@ -9,18 +9,18 @@ mod broken_rules;
 mod certificate_remarks;
 mod chain_entry;
 mod content_errors;
-mod describing;
 mod error_lines;
 mod error_reasons;
-mod explained;
 mod extension_remarks;
 mod file_report;
-mod kind;
+mod format_hints;
 mod list_remarks;
 mod name_remarks;
 mod reasons;
 mod remark_lines;
+mod remarked;
 mod remarks;
+mod report;
 mod serial_numbers;
 mod signed_answers;
 mod similar_names;
@@ -29,17 +29,21 @@ mod unchecked_extensions;
 
 pub use anchors_report::explain_anchors;
 pub use broken_rules::{ValidatedChain, add_chain, are_kept};
-pub use describing::describe;
 pub use error_lines::add_fault;
-pub use explained::Explained;
-pub use file_report::{explain_octets, is_pem};
-pub use kind::Kind;
+pub use file_report::{Contents, FileKind, report_on};
+pub use remarked::{Remarked, WithoutRemarks};
+pub use report::Report;
 pub use signed_answers::SignedAnswers;
 pub use stream_report::explain_stream;
 
 /// The items of `x509_cert_certificates` that the crates above use.
 pub mod cert_certificates {
     pub use cert_tool_describe::cert_certificates::CertificateInner;
+}
+
+/// The items of `x509_cert_lists` that the crates above use.
+pub mod cert_lists {
+    pub use cert_tool_describe::cert_lists::{CertReq, CertificateList};
 }
 
 /// The items of `x509_cert_names` that the crates above use.
@@ -86,7 +90,7 @@ pub mod oid {
 
 /// The items of `cert_tool_describe` that the crates above use.
 pub mod tool_describe {
-    pub use cert_tool_describe::add_certificate;
+    pub use cert_tool_describe::{Node, add_certificate};
 }
 
 /// The items of `cert_tool_lines` that the crates above use.

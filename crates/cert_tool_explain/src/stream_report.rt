@@ -2,17 +2,13 @@
 
 ghost use Rattle.std.specs.Prelude.{◌≤◌};
 
-use crate::error_lines::format_hint;
-use crate::explained::Explained;
-use crate::{add_fault, is_pem};
+use crate::add_fault;
+use crate::format_hints::format_hint;
+use crate::report::Report;
 use cert_desk_checking::desk_bundle::{Bundle, BundleError, FaultKind, first_fault};
 use cert_tool_describe::Node;
 use cert_tool_describe::tool_lines::Lines;
 use std::alloc::{AllocError, Global};
-
-// The message for certificates in PEM.
-pub(crate) const PEM_STREAM: &str =
-    "the file is PEM, not DER; to convert a certificate: `openssl x509 -in FILE -outform DER`";
 
 // The message for certificates in the order of TLS.
 const LEAF_FIRST: &str =
@@ -60,7 +56,7 @@ fn add_stream_fault(lines: &mut Lines, octets: &[u8], error: BundleError) {
     lines.tail(": ");
     lines.text_member("fault", meaning(kind));
     let hint = format_hint(octets);
-    if kind == FaultKind::NoCertificate && !hint.is_empty() {
+    if kind != FaultKind::Malformed && !hint.is_empty() {
         lines.text_row("", "hint", hint);
     }
     lines.close();
@@ -111,10 +107,6 @@ fn feed_all(bundle: &mut Bundle, octets: &[u8]) -> Result<(), BundleError> {
 fn add_stream(lines: &mut Lines, octets: &[u8], limit: u32) -> bool
     requires { 6 ≤ limit }
 {
-    if is_pem(octets) {
-        lines.finding(PEM_STREAM);
-        return false;
-    }
     let mut bundle = Bundle::new(lines.alloc, limit);
     match feed_all(&mut bundle, octets) {
         Ok(()) => {
@@ -136,12 +128,12 @@ pub fn explain_stream(
     octets: &[u8],
     limit: u32,
     is_json: bool,
-) -> Result<Explained, AllocError>
+) -> Result<Report, AllocError>
     requires { 6 ≤ limit }
 {
     let mut lines = Lines::new(alloc, is_json);
     lines.list("findings");
     let is_valid = add_stream(&mut lines, octets, limit);
     lines.end_list();
-    Explained::of(lines, is_valid)
+    Report::of(lines, is_valid)
 }

@@ -1,12 +1,14 @@
 -- Hosts that a client connects to, and the names and addresses that a certificate presents for them
 -- (RFC 9525). The common name isn't one of them (RFC 9525 2).
-use Rattle.std.specs.Prelude.{◌≡◌, ℕ, List, Bool, false, ◌&&◌, ◌||◌, ◌==◌, length, nat_lt, nat_le}
-use Rattle.std.specs.Prelude.{bytes_eq, codes, IsTrue}
+use Rattle.std.specs.Prelude.{◌≡◌, ◌⊎◌, ℕ, ◌-◌, List, Bool, false, ◌&&◌, ◌||◌, ◌==◌, length}
+use Rattle.std.specs.Prelude.{nat_lt, nat_le, nat_eq, bytes_eq, codes, drop, take, IsTrue}
+use Rattle.std.specs.Prelude.{Option, Some, None, if◌then◌else◌}
 use Rattle.std.specs.Char.{is_ascii_alphanumeric}
-use Rattle.std.specs.List.{after_first, before_first, list_all, position_or_len, slice_split}
+use Rattle.std.specs.List.{after_first, before_first, ends_with, list_all, position_or_len}
+use Rattle.std.specs.List.{slice_split, starts_with}
 use Rattle.std.specs.Str.{str_eq_ignore_ascii_case}
 use Rattle.std.specs.Net.Addr.{ipv4_octets, ipv6_octets}
-use Rattle.std.specs.Net.Grammar.{IsIpText}
+use Rattle.std.specs.Net.Grammar.{IsIpText, IsIpv6Text}
 use Rattle.std.specs.declared.net.ip_addr.IpAddr.{IpAddr}
 use Rattle.std.specs.declared.net.ip_addr.IpAddr.TheVariants as ips
 use Rattle.cert_tool_hosts.specs.declared.host.Host.{Host}
@@ -30,11 +32,31 @@ is_label label =
 abbrev pub is_dns_name : List ℕ → Bool
 is_dns_name text = nat_le (length text) 253 && list_all is_label (slice_split is_dot text)
 
--- The host that a text means: an address (RFC 4291 2.2), or else a DNS name (RFC 9525 6.1.2).
+-- The text before the bracket `]` at its end.
+abbrev pub before_bracket : List ℕ → Option (List ℕ)
+before_bracket text =
+    if ends_with nat_eq text (codes "]") then Some (take (length text - 1) text) else None
+
+-- The text between the brackets `[` and `]`, which URIs write around an IPv6 address (RFC 3986
+-- 3.2.2).
+abbrev pub in_brackets : List ℕ → Option (List ℕ)
+in_brackets text =
+    if starts_with nat_eq text (codes "[") then before_bracket (drop 1 text) else None
+
+-- The text between brackets is this IPv6 address.
+abbrev pub IsBracketed : Option (List ℕ) → IpAddr → Type 0
+IsBracketed (Some inner) (ips.V6 address) = IsIpv6Text inner address
+IsBracketed _ _ = ⊥
+
+-- The text is this address (RFC 4291 2.2), where an IPv6 address may have brackets around it.
+abbrev pub IsAddress : List ℕ → IpAddr → Type 0
+IsAddress text address = IsIpText text address ⊎ IsBracketed (in_brackets text) address
+
+-- The host that a text means: an address, or else a DNS name (RFC 9525 6.1.2).
 abbrev pub IsHost : List ℕ → Host → Type 0
-IsHost text (hosts.Address address) = IsIpText text address
+IsHost text (hosts.Address address) = IsAddress text address
 IsHost text (hosts.Dns name) = (name.now ≡ text) × IsTrue (is_dns_name text)
-    × ((address : IpAddr) → IsIpText text address → ⊥)
+    × ((address : IpAddr) → IsAddress text address → ⊥)
 
 -- The bytes of an address, four or sixteen, as in an iPAddress (RFC 5280 4.2.1.6).
 abbrev pub address_octets : IpAddr → List ℕ

@@ -1,14 +1,16 @@
 //! A host that a client connects to.
 
-ghost use Rattle.std.specs.Prelude.{◌≡◌, IfNone, IfSome};
+ghost use Rattle.std.specs.Prelude.{◌≡◌, option_map, IfNone, IfSome};
 ghost use Rattle.std.specs.List.{after_first, before_first, list_all, slice_split};
 ghost use Rattle.std.specs.Option.{is_some};
 ghost use Rattle.std.specs.Str.{str_eq_ignore_ascii_case};
+ghost use Rattle.std.specs.declared.net.ip_addr.IpAddr.{IpAddr};
 ghost use Rattle.cert_tool_hosts.specs.declared.host.Host.{Host};
-ghost use Rattle.cert_tool_hosts.specs.Hosts.{IsHost, has_more, is_address_of, is_dns_name, is_dot};
+ghost use Rattle.cert_tool_hosts.specs.Hosts.{IsAddress, IsHost, before_bracket, has_more, in_brackets};
+ghost use Rattle.cert_tool_hosts.specs.Hosts.{is_address_of, is_dns_name, is_dot};
 ghost use Rattle.cert_tool_hosts.specs.Hosts.{is_label, is_name_octet, is_name_of, is_wildcard_of};
 
-use std::net::IpAddr;
+use std::net::{IpAddr, Ipv6Addr};
 
 // The maximum number of bytes of a label, and of a DNS name as text (RFC 1035 2.3.4).
 const LONGEST_LABEL: usize = 63;
@@ -88,15 +90,52 @@ fn is_wildcard_of(name: &str, presented: &str) -> bool
     label == "*" && is_same(domain, others)
 }
 
+// Returns the text before the bracket `]` at its end.
+fn before_bracket(text: &[u8]) -> Option<&[u8]>
+    ensures { option_map (λ inner. inner.now) result ≡ before_bracket text.now }
+{
+    if !text.ends_with(b"]") {
+        return None;
+    }
+    Some(&text[..text.len() - 1])
+}
+
+// Returns the text between brackets.
+fn in_brackets(text: &[u8]) -> Option<&[u8]>
+    ensures { option_map (λ inner. inner.now) result ≡ in_brackets text.now }
+{
+    if !text.starts_with(b"[") {
+        return None;
+    }
+    before_bracket(&text[1..])
+}
+
+// Parses an IPv4 address, or an IPv6 address, which may be in brackets.
+fn address_in(text: &[u8]) -> Option<IpAddr>
+    ensures read { IfSome result (IsAddress text.now) }
+    ensures none { IfNone result ((address : IpAddr) → IsAddress text.now address → ⊥) }
+{
+    if let Ok(address) = IpAddr::parse_ascii(text) {
+        return Some(address);
+    }
+    let Some(inner) = in_brackets(text) else {
+        return None;
+    };
+    match Ipv6Addr::parse_ascii(inner) {
+        Ok(address) => Some(IpAddr::V6(address)),
+        Err(_) => None,
+    }
+}
+
 impl<'a> Host<'a> {
-    /// Parses a host: an IPv4 or IPv6 address, or else a DNS name. A DNS name has labels of 1 to 63
-    /// letters, digits, `-` and `_`, and at most 253 bytes. An internationalized name must be given
-    /// with its A-labels (`xn--..`).
+    /// Parses a host: an IPv4 or IPv6 address, or else a DNS name. An IPv6 address may be in
+    /// brackets, as in URIs. A DNS name has labels of 1 to 63 letters, digits, `-` and `_`, and at
+    /// most 253 bytes. An internationalized name must be given with its A-labels (`xn--..`).
     pub fn parse(text: &'a str) -> Option<Host<'a>>
         ensures read { IfSome result (IsHost text.now) }
         ensures none { IfNone result ((host : Host) → IsHost text.now host → ⊥) }
     {
-        if let Ok(address) = IpAddr::parse_ascii(text.as_bytes()) {
+        if let Some(address) = address_in(text.as_bytes()) {
             return Some(Host::Address(address));
         }
         if !is_dns_name(text) {

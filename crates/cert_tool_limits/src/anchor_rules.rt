@@ -267,7 +267,7 @@ pub(crate) fn issues_chain<J: SignatureJudge>(
 ///
 /// # Errors
 ///
-/// Fails if an allocation fails.
+/// - `AllocError`: memory runs out.
 pub fn anchors_limit<J: SignatureJudge>(
     alloc: Global,
     anchors: &[TrustAnchorChoice<Raw>],

@@ -108,7 +108,7 @@ fn last_allows(alloc: Global, bundle: &Bundle, purpose: &ObjectIdentifier<39>) -
 ///
 /// # Errors
 ///
-/// Fails if an allocation fails.
+/// - `AllocError`: memory runs out.
 pub fn first_unmet<J: SignatureJudge>(
     alloc: Global,
     anchors: &[TrustAnchorChoice<Raw>],
@@ -184,7 +184,7 @@ fn ending<J: SignatureJudge>(
 ///
 /// # Errors
 ///
-/// Fails if an allocation fails.
+/// - `AllocError`: memory runs out.
 pub fn hold<J: SignatureJudge>(
     alloc: Global,
     octets: &[u8],

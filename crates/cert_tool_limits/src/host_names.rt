@@ -84,11 +84,11 @@ fn some_presents(
 }
 
 /// Returns whether a certificate is issued for a host: its subjectAltName has a dNSName or an
-/// iPAddress of the host (RFC 9525 6.3, 6.4). The common name doesn't matter.
+/// iPAddress of the host (RFC 9525 6.3, 6.4). The common name isn't compared.
 ///
 /// # Errors
 ///
-/// Fails if an allocation fails.
+/// - `AllocError`: memory runs out.
 pub fn is_for_host(
     alloc: Global,
     certificate: &CertificateInner<Raw>,

@@ -294,7 +294,7 @@ fn unjudged_member(alloc: Global, certificates: &str, anchors: &str) -> Result<S
 ///
 /// # Errors
 ///
-/// Fails if an allocation fails.
+/// - `AllocError`: memory runs out.
 pub fn unjudged_text(
     alloc: Global,
     octets: &[u8],

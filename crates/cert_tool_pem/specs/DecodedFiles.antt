@@ -12,7 +12,7 @@ use Rattle.cert_tool_pem.specs.declared.pem_fault.PemFault.{PemFault}
 use Rattle.cert_tool_pem.specs.declared.wanted.Wanted.{Wanted}
 use Rattle.cert_tool_pem.specs.declared.wanted.Wanted.TheVariants as kinds
 use Rattle.cert_tool_pem.specs.FileInputs.{HasEnded, Takes, failures_of, front_of, rest_of}
-use Rattle.cert_tool_pem.specs.Pem.{text_octets}
+use Rattle.cert_tool_pem.specs.Pem.{is_reversed, text_octets}
 
 -- The maximum number of bytes of a text.
 abbrev pub most_text : ℕ
@@ -28,11 +28,6 @@ is_der (first ∷ rest) = first == 48
 abbrev pub file_octets : Wanted → List ℕ → Result (List ℕ) (ℕ × PemFault)
 file_octets kinds.Lines octets = Ok octets
 file_octets wanted octets = if is_der octets then Ok octets else text_octets wanted octets
-
--- The order of the values is to be reversed.
-abbrev pub is_reversed : Wanted → Bool
-is_reversed kinds.LeafFirst = true
-is_reversed _ = false
 
 -- The file is returned as it is, and these bytes of it were read already: none if it must contain
 -- lines, none if it is empty, or the first byte of DER if the order isn't to be reversed.

@@ -1,6 +1,6 @@
 -- The decoding of a text with PEM blocks (RFC 7468): base64 between two boundary lines.
 use Rattle.std.specs.Prelude.{ℕ, ◌+◌, ◌-◌, List, [], ◌∷◌, ◌++◌, length, take, drop, reverse, Bool}
-use Rattle.std.specs.Prelude.{false, ◌||◌, ◌==◌, nat_eq, bytes_eq, codes, if◌then◌else◌, is_some}
+use Rattle.std.specs.Prelude.{true, false, ◌||◌, ◌==◌, nat_eq, bytes_eq, codes, if◌then◌else◌, is_some}
 use Rattle.std.specs.Prelude.{Option, Some, None, Result, Ok, Err}
 use Rattle.std.specs.List.{concat, ends_with, list_any, slice_split, starts_with}
 use Rattle.base64.specs.Engines.{standard}
@@ -79,7 +79,8 @@ abbrev pub is_certificate : List ℕ → Bool
 is_certificate label =
     bytes_eq label (codes "CERTIFICATE") || bytes_eq label (codes "X509 CERTIFICATE")
 
--- The labels of what a file must contain (RFC 7468 5.1, 6 and 7).
+-- The labels of what a file must contain (RFC 7468 5.1 and 6 to 11). The labels for OCSP are
+-- OpenSSL's, and a timestamp response has none.
 abbrev pub wants : Wanted → List ℕ → Bool
 wants kinds.Certificates label = is_certificate label
 wants kinds.LeafFirst label = is_certificate label
@@ -88,6 +89,12 @@ wants kinds.List label = bytes_eq label (codes "X509 CRL")
 wants kinds.Request label =
     bytes_eq label (codes "CERTIFICATE REQUEST")
     || bytes_eq label (codes "NEW CERTIFICATE REQUEST")
+wants kinds.OcspRequest label = bytes_eq label (codes "OCSP REQUEST")
+wants kinds.OcspResponse label = bytes_eq label (codes "OCSP RESPONSE")
+wants kinds.Message label = bytes_eq label (codes "CMS") || bytes_eq label (codes "PKCS7")
+wants kinds.Key label =
+    bytes_eq label (codes "PRIVATE KEY") || bytes_eq label (codes "ENCRYPTED PRIVATE KEY")
+wants kinds.Timestamp label = false
 wants kinds.Lines label = false
 
 -- The state after some lines: the values of the blocks before them, and, inside of a block, its
@@ -183,10 +190,15 @@ read_on wanted before (Ok r) [] = ended r
 read_on wanted before (Ok r) (line ∷ lines) =
     read_on wanted (before + 1) (step wanted (before + 1) line r) lines
 
+-- The order of the values is to be reversed.
+abbrev pub is_reversed : Wanted → Bool
+is_reversed kinds.LeafFirst = true
+is_reversed _ = false
+
 -- The concatenated values, the last one first if the order is to be reversed.
 abbrev pub in_order : Wanted → List (List ℕ) → List ℕ
-in_order kinds.LeafFirst values = concat (reverse values)
-in_order wanted values = concat values
+in_order wanted values =
+    if is_reversed wanted then concat (reverse values) else concat values
 
 -- The concatenated values, or the error.
 abbrev pub octets_of : Wanted → Values → Result (List ℕ) (ℕ × PemFault)

@@ -9,7 +9,7 @@ ghost use Rattle.cert_tool_pem.specs.PemReading.{FailsBy, reading_plain};
 use crate::pem_error::PemError;
 use crate::pem_fault::PemFault;
 use crate::pem_lines::{begun_by, ended_by, has_boundary, lines_of, trimmed};
-use crate::wanted::{Wanted, wants};
+use crate::wanted::{Wanted, is_reversed, wants};
 use base64::DecodeAllocError;
 use base64::engine::general_purpose::STANDARD;
 use std::alloc::{AllocError, Global};
@@ -217,13 +217,10 @@ fn in_order(alloc: Global, wanted: Wanted, values: &[Vec<u8>]) -> Result<Vec<u8>
     ensures { IfOk result (λ octets. octets.items
         ≡ in_order wanted (map (λ value. value.items) values.now)) }
 {
-    match wanted {
-        Wanted::LeafFirst => joined_back(alloc, values),
-        Wanted::Certificates => joined(alloc, values),
-        Wanted::Anchors => joined(alloc, values),
-        Wanted::List => joined(alloc, values),
-        Wanted::Request => joined(alloc, values),
-        Wanted::Lines => joined(alloc, values),
+    if is_reversed(wanted) {
+        joined_back(alloc, values)
+    } else {
+        joined(alloc, values)
     }
 }
 

@@ -5,7 +5,8 @@ ghost use Rattle.cert_desk_io.specs.Devices.{Fails, source};
 ghost use Rattle.cert_desk_io.specs.Whole.{IsUnread, IsWhole};
 ghost use Rattle.cert_tool_pem.specs.FileReading.{IsBegun, IsFirst, most_after_first};
 ghost use Rattle.cert_tool_pem.specs.FileInputs.{front_of, rest_of};
-ghost use Rattle.cert_tool_pem.specs.DecodedFiles.{IsFileError, IsDecodedFile, is_reversed, most_text};
+ghost use Rattle.cert_tool_pem.specs.DecodedFiles.{IsFileError, IsDecodedFile, most_text};
+ghost use Rattle.cert_tool_pem.specs.Pem.{is_reversed};
 
 use crate::blocks::octets_in;
 use crate::file_error::FileError;

@@ -3,7 +3,6 @@ use Rattle.std.proofs.Common.{List, ℕ, Bor, Option, map, option_map, inl, subs
 use Rattle.cert_tool_explain.specs.DeskIo.Devices.{sink}
 use Rattle.cert_tool_explain.specs.DeskIo.NamedInputs.{inputs}
 use Rattle.cert_tool.specs.SeveralFiles.{AreRunsBy, several_plain}
-use Rattle.cert_tool.proofs.ServingLaws.{run_once}
 use Rattle.cert_tool.proofs.several_files.obey_words.Goals as goal
 
 pub returns-in-Ok-None : goal.returns-in-Ok-None
@@ -16,5 +15,5 @@ returns-in-Ok-None g c =
     record {
       obeyed = inl
           (subst (λ (s : Option (List (List ℕ) × List (List ℕ))). AreRunsBy s tells i out err (map word c.args.words.now) c.obey.result)
-          (ap (option_map several_plain) (sym c.in-Ok-None.field-0-is) ∙ c.in-Ok-None.ensures) (run_once word tells i out err c.args.words.now c.obey.result c.obey.ensures.obeyed));
+          (ap (option_map several_plain) (sym c.in-Ok-None.field-0-is) ∙ c.in-Ok-None.ensures) c.obey.ensures.obeyed);
     }
