@@ -100,7 +100,7 @@ Libs: -L\${libdir} -l$name
 END
 }
 library wurstdrape cert_desk_c \
-    "Parses and validates X.509 certificates, CRLs and CSRs; formally verified"
+    "Decodes X.509 certificates, CRLs and CSRs; validates chains; formally verified"
 library wurstdrape_issue cert_desk_issuing_c \
     "Issues X.509 certificates that are signed elsewhere; formally verified"
 cp "$here/wurstdrape.h" "$folder/"

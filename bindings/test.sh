@@ -73,6 +73,17 @@ python_tests() {
         python3 -m zipfile -e "$wheel" "$work/module" &&
         python3 -m unittest "$here/python/test_wurstdrape.py"
 }
+rust_tests() {
+    local run
+    run=(cargo run --quiet "${manifest[@]}" --example questions -- "$top/examples/root.der")
+    cargo test --quiet "${manifest[@]}" || return 1
+    command -v openssl >/dev/null || return 0
+    # The chain with another last byte, which is in the signature of the last certificate.
+    { head -c -1 "$top/examples/chain.der" && printf '\0'; } >"$work/changed.der"
+    [ "$("${run[@]}" "$top/examples/chain.der" 1780000000)" = Trusted ] &&
+        [ "$("${run[@]}" "$work/changed.der" 1780000000)" = \
+            "Refused { place: 1, rule: WrongSignature }" ]
+}
 # Decodes changed files through C and, if there is cargo, through Rust: each prints one line.
 changed_files() {
     "$cc" "${flags[@]}" -O2 "$here/c/mutated.c" "${archives[0]}" -o "$work/mutated" &&
@@ -99,7 +110,7 @@ under="valgrind -q --error-exitcode=1 --leak-check=full"
 suite "C, with the shared library, under valgrind" "$(lack_of -g)" in_c "${shared[@]}"
 under=
 suite "Python" "$no_python" python_tests
-suite "Rust" "$no_cargo" cargo test --quiet "${manifest[@]}"
+suite "Rust" "$no_cargo" rust_tests
 suite "$count changed files, through C and Rust" "" changed_files
 printf '\n%s passed, %s failed\n' "$passed" "$failed"
 [ "$failed" = 0 ]

@@ -7,29 +7,31 @@
 
    Link with libwurstdrape; wd_signed_part, wd_issue and wd_audit are in libwurstdrape_issue.
    docs/FROM_OTHERS.md has complete programs. Each function is proved to meet its contract, which is
-   in its source (crates/cert_desk_c/src, crates/cert_desk_issuing_c/src); docs/FROM_OTHERS.md says
-   what that means.
+   in its source (crates/cert_desk_c/src, crates/cert_desk_issuing_c/src). docs/FROM_OTHERS.md says
+   what that means, and which tools change the code after it was proved.
 
    Wurstdrape doesn't verify signatures. To validate a chain, call wd_questions, verify the
    signatures that it lists, and pass the lines of the valid ones to wd_verify as answers.
 
    What the caller must ensure
 
-   - No pointer is null, not even where the length is 0. A pointer points to as many bytes as the
-     length after it says.
-   - The input doesn't change during the call.
-   - The memory that a function writes to overlaps none of its other arguments. It needn't be
+   - Pass no null pointer, not even where the length is 0. A pointer must point to as many bytes as
+     the length after it says.
+   - Don't change the input during the call.
+   - Don't let the memory that a function writes to overlap its other arguments. It needn't be
      initialized, except that a bool must be true or false.
-   - malloc, realloc and free are those of one C library, with its alignment.
-   - No function is called from a signal handler, or in the child of a process with several threads
-     after fork.
+   - Link malloc, realloc and free of one C library. They must align a block to each
+     power of two, up to 16, that divides its size.
+   - Don't call a function from a signal handler, or in the child after fork if the process has
+     several threads.
 
    What the functions return
 
    - Each comment below lists the statuses that the function may return. It returns no others.
    - A status implies what its comment says. For all functions except the three that issue, the
-     converse is proved, too: if what the comment says of a status is true, the function returns
-     this status, or WD_MEMORY.
+     converse is proved, too: if the arguments are valid and what the comment says of a status is
+     true, the function returns this status, or WD_MEMORY. If the arguments aren't valid, it returns
+     WD_ARGUMENTS, or WD_MEMORY.
    - WD_MEMORY: memory ran out. A function that allocates may return it in place of another status.
      That it isn't returned without a reason is only tested.
    - All statuses but WD_ARGUMENTS and WD_MEMORY imply that the arguments are valid.
@@ -39,9 +41,9 @@
    - Bytes are written to the beginning of `out`, and their number to `*size`. Text is UTF-8, and
      isn't terminated by 0.
    - If `out` is too small, the status is WD_NO_ROOM, and `*size` is the size that is needed. With
-     any other status but WD_DONE, `*size` is 0.
-   - With any status but WD_DONE, `out` is unchanged, and so are all other outputs. The exceptions
-     are `*size`, and `fault` and `told` as stated below.
+     any status other than WD_DONE and WD_NO_ROOM, `*size` is 0.
+   - With any status other than WD_DONE, `out` is unchanged, and so are all other outputs. The
+     exceptions are `*size`, and `fault` and `told` as stated below.
    - No function returns memory that you have to free. */
 #ifndef WURSTDRAPE_H
 #define WURSTDRAPE_H
@@ -61,7 +63,8 @@ enum {
     WD_REFUSED = 1,   /* a certificate of the chain breaks a rule, or the orders are rejected */
     WD_FAULTY = 2,    /* the input can't be decoded as a value, or a text, of the expected type */
     WD_EMPTY = 3,     /* the chain is empty, or there is no such extension or index */
-    WD_ARGUMENTS = 4, /* an argument other than the input is wrong */
+    WD_ARGUMENTS = 4, /* an argument other than the bytes to decode is wrong, or the orders file is
+                         malformed */
     WD_NO_ROOM = 5,   /* `out` is too small */
     WD_MEMORY = 6     /* out of memory */
 };
@@ -100,12 +103,12 @@ enum {
    stores in `number` the error of the first bytes that aren't a certificate. */
 enum {
     WD_CHAIN_NO_CERTIFICATE = 1,      /* the byte where a certificate should begin isn't 0x30 */
-    WD_CHAIN_INDEFINITE = 2,          /* its length is indefinite */
-    WD_CHAIN_LENGTH_TOO_WIDE = 3,     /* its length has more than four bytes after the first */
-    WD_CHAIN_LENGTH_NOT_SHORTEST = 4, /* its length isn't in the shortest form */
-    WD_CHAIN_TOO_LARGE = 5,           /* it has more than `limit` bytes */
-        WD_CHAIN_MALFORMED = 6,           /* it isn't a certificate in DER, or has a value that isn't
-                                         supported, such as a date before 1970 */
+    WD_CHAIN_INDEFINITE = 2,          /* the certificate's length is indefinite */
+    WD_CHAIN_LENGTH_TOO_WIDE = 3,     /* the length has more than four bytes after the first */
+    WD_CHAIN_LENGTH_NOT_SHORTEST = 4, /* the length isn't in the shortest form */
+    WD_CHAIN_TOO_LARGE = 5,           /* the certificate has more than `limit` bytes */
+    WD_CHAIN_MALFORMED = 6,           /* the bytes aren't a certificate in DER, or have a value that
+                                         isn't supported, such as a date before 1970 */
     WD_CHAIN_TRUNCATED = 7            /* the chain ends inside a certificate */
 };
 
@@ -167,7 +170,8 @@ typedef struct {
 
 /* The certificate that breaks a rule, or the error of the input. */
 typedef struct {
-    uint64_t place;  /* the index of the certificate, counted from 0 */
+    uint64_t place;  /* the index of the certificate, counted from 0; with WD_FAULTY, this is the
+                        number of certificates before the error */
     uint64_t offset; /* the index of its first byte in the chain; written only with WD_FAULTY */
     uint64_t number; /* the rule, or the error (WD_CHAIN_..) */
 } wd_place;
@@ -258,10 +262,13 @@ uint32_t wd_identifier_of_text(const uint8_t *text, size_t text_len, uint8_t *ou
                                size_t *size);
 
 /* Writes one line for each signature that has to be verified to validate a chain under trust
-   anchors: `PLACE ANCHOR KEY ALGORITHM SIGNED BITS` (docs/CLI.md). `chain` is a sequence of
-   certificates of at most `limit` bytes each, with nothing between them; the first one is issued
-   by a trust anchor. `anchors` is a sequence of trust anchors (RFC 5914); certificates are trust
-   anchors, too.
+   anchors: `PLACE ANCHOR KEY ALGORITHM SIGNED BITS`. PLACE is the index of the certificate, and
+   ANCHOR that of the trust anchor, or `-`. The other four are in hex: the SubjectPublicKeyInfo, the
+   AlgorithmIdentifier, the signed bytes, and the BIT STRING of the signature, each in DER. `chain`
+   is a sequence of certificates of at most `limit` bytes each, with nothing between them: first the
+   one that a trust anchor issued, and last the end entity's. This is the reverse of the order of
+   TLS. `anchors` is a sequence of trust anchors (RFC 5914); certificates are trust anchors, too. A
+   limit of 65536 fits most purposes.
    - WD_DONE: `out` has the lines.
    - WD_FAULTY: `chain` isn't a sequence of such certificates.
    - WD_EMPTY: `chain` is empty.
@@ -272,10 +279,11 @@ uint32_t wd_questions(const uint8_t *anchors, size_t anchors_len, const uint8_t 
                       size_t *size);
 
 /* Validates a chain under trust anchors at the validation time `moment` (seconds since
-   1970-01-01T00:00:00Z), for a key purpose (the content bytes of its OID). `answers` are the lines
-   of wd_questions whose signatures your verifier has accepted; all other signatures count as
-   invalid. The other arguments are those of wd_questions. Neither host names nor revocation are
-   checked (docs/CLI.md lists what else isn't).
+   1970-01-01T00:00:00Z), for a key purpose (the content bytes of its OID, such as
+   2B 06 01 05 05 07 03 01 for serverAuth). `answers` are the lines of wd_questions whose signatures
+   your verifier has accepted; all other signatures count as invalid. The other arguments are those
+   of wd_questions. Neither host names nor revocation are checked (docs/CLI.md lists what else
+   isn't).
    - WD_DONE: the chain is trusted.
    - WD_REFUSED: the chain breaks a rule. `told` gets the index of the first certificate that breaks
      one, and the first rule that it breaks.
@@ -284,7 +292,7 @@ uint32_t wd_questions(const uint8_t *anchors, size_t anchors_len, const uint8_t 
    - WD_EMPTY: `chain` is empty.
    - WD_ARGUMENTS: the trust anchors, the answers, the purpose or the limit are wrong.
    - WD_MEMORY.
-   With any status but WD_REFUSED and WD_FAULTY, `told` is unchanged. */
+   With any status other than WD_REFUSED and WD_FAULTY, `told` is unchanged. */
 uint32_t wd_verify(const uint8_t *answers, size_t answers_len, const uint8_t *anchors,
                    size_t anchors_len, const uint8_t *chain, size_t chain_len, uint64_t moment,
                    const uint8_t *purpose, size_t purpose_len, uint32_t limit, wd_place *told);
@@ -292,8 +300,8 @@ uint32_t wd_verify(const uint8_t *answers, size_t answers_len, const uint8_t *an
 /* The functions that issue, in libwurstdrape_issue. */
 
 /* Writes the TBSCertificate at an index of the chain that an orders file describes (docs/CLI.md).
-   The root has index 0. You have to sign these bytes by `algorithm` (an AlgorithmIdentifier in
-   DER): those of the root with its own key, and all others with the key of the order before.
+   The root has index 0. Sign these bytes with `algorithm` (an AlgorithmIdentifier in DER): those of
+   the root with its own key, and all others with the key of the preceding order.
    - WD_DONE: `out` has the TBSCertificate.
    - WD_REFUSED: the orders are rejected.
    - WD_EMPTY: the chain has no such index.
@@ -303,9 +311,11 @@ uint32_t wd_signed_part(const uint8_t *orders, size_t orders_len, uint32_t place
                         const uint8_t *algorithm, size_t algorithm_len, uint8_t *out,
                         size_t out_len, size_t *size);
 
-/* Writes the certificate at an index, with `signature` as the signature of its TBSCertificate. The
-   signature isn't verified: use wd_verify on the whole chain, with its root as trust anchor. The
-   statuses are those of wd_signed_part; WD_ARGUMENTS also means that the signature is too long. */
+/* Writes the certificate at an index, with `signature` as the signature of its TBSCertificate.
+   `signature` is the content of the BIT STRING after its first byte, which counts the unused bits:
+   for ECDSA, the DER of an Ecdsa-Sig-Value (RFC 3279 2.2.3). It isn't verified: use wd_verify on
+   the whole chain, with its root as trust anchor. The statuses are those of wd_signed_part;
+   WD_ARGUMENTS also means that the signature is too long. */
 uint32_t wd_issue(const uint8_t *orders, size_t orders_len, uint32_t place,
                   const uint8_t *algorithm, size_t algorithm_len, const uint8_t *signature,
                   size_t signature_len, uint8_t *out, size_t out_len, size_t *size);

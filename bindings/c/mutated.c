@@ -1,7 +1,7 @@
 /* Calls the functions with changed files, and prints a checksum of all results: mutated TOP COUNT
 
-   The changes and the checksum are those of rust/examples/mutated.rs, which calls the functions
-   through the Rust crate. Both programs print one line, so their results can be compared. */
+   The changes and the checksum are those of bindings/rust/examples/mutated.rs, which calls the
+   functions through the Rust crate. Both programs print one line, so their results can be compared. */
 #include <stdio.h>
 #include <stdlib.h>
 #include <string.h>

@@ -193,8 +193,8 @@ static void rooms(writes *call) {
     }
 }
 
-/* Each allocation fails in turn. The call then returns WD_MEMORY and writes nothing, or it does
-   without this memory and its result is the same. It frees everything in both cases. */
+/* Each allocation fails in turn. The call then returns WD_MEMORY and writes nothing, or it succeeds
+   without this memory, with the same result. It frees everything in both cases. */
 static void allocations(writes *call) {
 #ifdef WRAPPED
     static uint8_t out[65536], whole[65536];
@@ -385,7 +385,8 @@ static uint32_t audit_of(const data *of, uint64_t at, wd_reason *told) {
                     sizeof server_auth, told);
 }
 
-/* Whether the chain of orders will be trusted, or why it will not: nothing is signed. */
+/* Checks whether wd_audit reports that the chain of orders will be trusted, or why it won't be.
+   Nothing is signed. */
 static void audited(void) {
     wd_reason told;
     CHECK(audit_of(&orders, moment, &told) == WD_DONE);

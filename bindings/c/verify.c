@@ -1,12 +1,16 @@
 /* Validates a chain with a verifier's answers: verify ROOTS CHAIN ANSWERS SECONDS
-   The exit status is that of wd_verify, or 5 if a file can't be read: wd_verify never returns 5. */
+   The exit status is that of wd_verify, or 5 if a file can't be read into memory: wd_verify never
+   returns 5. */
+#include <errno.h>
 #include <stdio.h>
 #include <stdlib.h>
 #include <wurstdrape.h>
 
+enum { READ_FAILED = 5 };
+
 static _Noreturn void fail(const char *name) {
     perror(name);
-    exit(WD_NO_ROOM);
+    exit(READ_FAILED);
 }
 
 /* Reads a whole file. If only a part of a chain were read, the part could be a trusted chain. */
@@ -33,8 +37,12 @@ int main(int count, char **words) {
     static const uint8_t server_auth[] = {0x2b, 6, 1, 5, 5, 7, 3, 1}; /* RFC 5280 4.2.1.12 */
     wd_place told;
     char *end = NULL;
-    uint64_t seconds = count == 5 ? strtoull(words[4], &end, 10) : 0;
-    if (!end || end == words[4] || *end) {
+    uint64_t seconds = 0;
+    if (count == 5 && words[4][0] >= '0' && words[4][0] <= '9') {
+        errno = 0;
+        seconds = strtoull(words[4], &end, 10);
+    }
+    if (!end || *end || errno) {
         fputs("usage: verify ROOTS CHAIN ANSWERS SECONDS\n", stderr);
         return WD_ARGUMENTS;
     }
@@ -46,8 +54,13 @@ int main(int count, char **words) {
                                 seconds, server_auth, sizeof server_auth, 65536, &told);
     if (status == WD_DONE) puts("trusted");
     if (status == WD_REFUSED)
-        printf("certificate %llu breaks rule %llu\n", (unsigned long long)told.place,
-               (unsigned long long)told.number);
+        printf("certificate %llu breaks rule %llu of wurstdrape.h\n",
+               (unsigned long long)told.place, (unsigned long long)told.number);
+    if (status == WD_FAULTY)
+        fprintf(stderr, "certificate %llu, at byte %llu: error %llu of wurstdrape.h\n",
+                (unsigned long long)told.place, (unsigned long long)told.offset,
+                (unsigned long long)told.number);
+    if (status > WD_FAULTY) fprintf(stderr, "not trusted: status %u of wurstdrape.h\n", status);
     free(roots);
     free(chain);
     free(answers);

@@ -9,6 +9,8 @@ import sys
 
 import wurstdrape
 
+if len(sys.argv) != 4:
+    sys.exit("usage: first.py ROOT CHAIN SECONDS")
 root, chain = (pathlib.Path(name).read_bytes() for name in sys.argv[1:3])
 print(wurstdrape.describe(root)["subject"]["text"])
 verdict = wurstdrape.verify(root, chain, at=int(sys.argv[3]))

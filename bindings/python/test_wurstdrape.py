@@ -143,8 +143,32 @@ class Chains(unittest.TestCase):
     def test_by_another_verifier(self):
         verdict = wurstdrape.verify(self.root, self.chain, MOMENT, verifier=lambda line: True)
         self.assertTrue(verdict.trusted)
+        self.assertTrue(verdict)
         verdict = wurstdrape.verify(self.root, self.chain, MOMENT, verifier=lambda line: False)
         self.assertIs(verdict.rule, Rule.WRONG_SIGNATURE)
+        self.assertFalse(verdict)
+
+    def test_times(self):
+        """A time that doesn't fit is rejected, and isn't replaced by another one."""
+        early = datetime.datetime(1969, 12, 31, tzinfo=datetime.timezone.utc)
+        for at in (-1, 2**64, 2**64 + MOMENT, early):
+            with self.assertRaises(ValueError):
+                wurstdrape.judge(b"", self.root, self.chain, at)
+            with self.assertRaises(ValueError):
+                wurstdrape.verify(self.root, self.chain, at, verifier=lambda line: True)
+        # the greatest number of seconds, which is after every notAfter
+        verdict = wurstdrape.judge(b"", self.root, self.chain, 2**64 - 1)
+        self.assertIs(verdict.rule, Rule.EXPIRED)
+
+    def test_limits(self):
+        for limit in (-1, 2**32, 2**32 + wurstdrape.LIMIT):
+            with self.assertRaises(ValueError):
+                wurstdrape.judge(b"", self.root, self.chain, MOMENT, limit=limit)
+            with self.assertRaises(ValueError):
+                wurstdrape.questions(self.root, self.chain, limit)
+        with self.assertRaises(Error) as refused:
+            wurstdrape.judge(b"", self.root, self.chain, MOMENT, limit=5)
+        self.assertIs(refused.exception.status, Status.ARGUMENTS)
 
 
 class Issued(unittest.TestCase):
@@ -186,12 +210,21 @@ class Issued(unittest.TestCase):
             with self.assertRaises(Error) as refused:
                 wurstdrape.issued(orders, place, algorithm, b"signature")
             self.assertIs(refused.exception.status, status)
+        for place in (-1, 2**32):
+            with self.assertRaises(ValueError):
+                wurstdrape.signed_part(self.orders, place, self.ALGORITHM)
+            with self.assertRaises(ValueError):
+                wurstdrape.issued(self.orders, place, self.ALGORITHM, b"signature")
 
     def test_audit(self):
         def audit(orders, at, **more):
             return wurstdrape.audit(orders, self.ALGORITHM, at, **more)
 
         self.assertTrue(audit(self.orders, MOMENT).trusted)
+        self.assertTrue(audit(self.orders, MOMENT))
+        self.assertFalse(audit(self.orders, 1))
+        with self.assertRaises(ValueError):
+            audit(self.orders, -1)
         for at, place, rule in ((1, 0, Rule.NOT_YET_VALID), (1830000000, 2, Rule.EXPIRED)):
             told = audit(self.orders, at)
             self.assertEqual((told.trusted, told.place, told.rule), (False, place, rule))

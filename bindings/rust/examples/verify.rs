@@ -1,25 +1,28 @@
 //! Prints what is in a root certificate, and validates a chain under it.
 //!
-//!     cargo run --example verify ROOTS CHAIN ANSWERS MOMENT
+//!     cargo run --example verify ROOT CHAIN ANSWERS SECONDS
+//!
+//! SECONDS is the validation time, since 1970. The exit status is 0 if the chain is trusted, and 1
+//! otherwise.
 
 use std::{env, fs, process};
 
-use wurstdrape::{Kind, Terms, Verdict, LIMIT, SERVER_AUTH};
+use wurstdrape::{Kind, Terms, LIMIT, SERVER_AUTH};
 
 fn main() -> Result<(), Box<dyn std::error::Error>> {
     let words: Vec<String> = env::args().skip(1).collect();
-    let [roots, chain, answers, moment] = words.as_slice() else {
-        return Err("verify ROOTS CHAIN ANSWERS MOMENT".into());
+    let [root, chain, answers, moment] = words.as_slice() else {
+        return Err("usage: verify ROOT CHAIN ANSWERS SECONDS".into());
     };
-    let (roots, chain, answers) = (fs::read(roots)?, fs::read(chain)?, fs::read(answers)?);
+    let (root, chain, answers) = (fs::read(root)?, fs::read(chain)?, fs::read(answers)?);
     let terms = Terms {
-        anchors: &roots,
+        anchors: &root,
         moment: moment.parse()?,
         purpose: SERVER_AUTH,
         limit: LIMIT,
     };
-    print!("{}", wurstdrape::show(&roots, Kind::Certificate)?);
+    print!("{}", wurstdrape::show(&root, Kind::Certificate)?);
     let verdict = wurstdrape::verify(&answers, &chain, &terms)?;
     println!("{verdict:?}");
-    process::exit((verdict != Verdict::Trusted).into())
+    process::exit((!verdict.is_trusted()).into())
 }

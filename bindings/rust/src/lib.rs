@@ -1,11 +1,43 @@
 //! Decodes, prints and describes X.509 certificates (RFC 5280), CRLs and CSRs, and validates and
 //! issues certificate chains.
 //!
-//! Each function calls one function of `wurstdrape.h`, whose contract is proved. The text that
-//! `describe` returns is only tested, and so are the wrappers of this crate. docs/FROM_OTHERS.md of
-//! the repository says what is proved about each function. Bytes are DER, except for answers, orders
-//! files, texts and the content bytes of OIDs. The glossary in docs/TRUST.md explains the words of
-//! the names, such as `Refused` and `place`.
+//! Each function calls one function of `wurstdrape.h`, which is proved to meet its contract. The
+//! text that `describe` returns is only tested, and so are the wrappers of this crate.
+//! docs/FROM_OTHERS.md of the repository says what is proved about each function. Bytes are DER,
+//! except for answers, orders files, texts and the content bytes of OIDs. The glossary in
+//! docs/TRUST.md explains the words of the names, such as `Refused` and `place`.
+//!
+//! # Validating a chain
+//!
+//! Wurstdrape doesn't verify signatures. Call [`questions`], verify the signature of each line with
+//! a crate of your choice, and pass the lines of the valid ones to [`verify`].
+//!
+//! A chain is certificates in DER, with nothing between them: first the one that a trust anchor
+//! issued, and last the end entity's. **This is the reverse of the order of TLS**, so concatenate
+//! the `Vec<CertificateDer>` of rustls from its end:
+//!
+//! ```
+//! # let certificates = [b"end entity".as_slice(), b"intermediate"];
+//! let chain: Vec<u8> = certificates.iter().rev().flat_map(|der| der.iter().copied()).collect();
+//! # assert_eq!(chain, b"intermediateend entity");
+//! ```
+//!
+//! **Neither host names nor revocation are checked** (docs/CLI.md lists what else isn't checked),
+//! and this crate has no `ServerCertVerifier`.
+//!
+//! This program verifies the signatures with the command `openssl`. In your program, let `is_valid`
+//! call a crate. With RustCrypto, `key` decodes to `spki::SubjectPublicKeyInfoRef`, `algorithm` to
+//! `spki::AlgorithmIdentifierRef`, and `bits` to `der::asn1::BitStringRef`. The message is
+//! `signed`. `ring` and the verifiers of rustls-pki-types take the bits of the key
+//! (`subject_public_key`) in place of the SubjectPublicKeyInfo.
+//!
+#![doc = concat!("```no_run\n", include_str!("../examples/questions.rs"), "```")]
+//!
+//! # Issuing a chain
+//!
+//! An orders file (docs/CLI.md, "Orders") describes a chain. For each of its certificates, call
+//! [`signed_part`], sign the bytes, and pass the signature to [`issue`]. [`audit`] returns
+//! beforehand whether the chain will be trusted.
 #![deny(missing_docs, unsafe_op_in_unsafe_fn)]
 
 mod calls;
@@ -45,13 +77,14 @@ pub struct Fault {
 /// The error of a call.
 #[derive(Clone, Copy, Debug, PartialEq, Eq)]
 pub enum Error {
-    /// The orders are rejected.
+    /// The orders are rejected. (A chain that is rejected isn't an error, but
+    /// [`Verdict::Refused`].)
     Refused,
     /// The input can't be decoded as a value, or a text, of the expected type.
     Faulty,
     /// The chain is empty, or has no certificate at the index.
     Empty,
-    /// The trust anchors, the answers, the orders file, the limit, the algorithm or an OID are
+    /// The trust anchors, the answers, the orders file, the limit, the algorithm or an OID is
     /// wrong.
     Arguments,
     /// Out of memory.
@@ -110,15 +143,17 @@ pub struct Extension {
     pub critical: bool,
 }
 
-/// The verdict on a chain.
+/// The verdict on a chain. Only [`Verdict::Trusted`] means that the chain is trusted.
 #[derive(Clone, Copy, Debug, PartialEq, Eq)]
+#[must_use]
 pub enum Verdict {
     /// Each certificate keeps every rule.
     Trusted,
     /// The certificate at index `place` is the first one that breaks a rule, and `rule` is the
     /// first rule that it breaks.
     Refused {
-        /// The index of the certificate, counted from 0.
+        /// The index of the certificate, counted from 0. A trust anchor issued the certificate at
+        /// index 0.
         place: u64,
         /// The rule that is broken.
         rule: Rule,
@@ -136,8 +171,17 @@ pub enum Verdict {
     Empty,
 }
 
-/// Whether the chain that an orders file describes will be trusted.
+impl Verdict {
+    /// Returns whether the chain is trusted.
+    #[must_use]
+    pub fn is_trusted(&self) -> bool {
+        *self == Verdict::Trusted
+    }
+}
+
+/// The answer of [`audit`]: whether the chain that an orders file describes will be trusted.
 #[derive(Clone, Copy, Debug, PartialEq, Eq)]
+#[must_use]
 pub enum Audit {
     /// It will be trusted under its own root, if its signatures are valid and each certificate is
     /// within the size limit of the validation.
@@ -166,7 +210,8 @@ pub struct Terms<'a> {
     pub anchors: &'a [u8],
     /// The validation time, in seconds since 1970-01-01T00:00:00Z.
     pub moment: u64,
-    /// The content bytes of the OID of the key purpose.
+    /// The content bytes of the OID of the key purpose, such as [`SERVER_AUTH`], or what
+    /// [`identifier_of_text`] returns.
     pub purpose: &'a [u8],
     /// The size limit for one certificate, in bytes; at least 6.
     pub limit: u32,
@@ -296,12 +341,20 @@ pub fn identifier_of_text(identifier: &str) -> Result<Vec<u8>> {
 }
 
 /// Returns a line for each signature that has to be verified to validate a chain under trust
-/// anchors: `PLACE ANCHOR KEY ALGORITHM SIGNED BITS`, as `cert_tool questions` prints them. The
-/// first certificate of the chain is the one that a trust anchor issued.
+/// anchors. `chain` is certificates in DER with nothing between them: the first is the one that a
+/// trust anchor issued, and the last is the end entity's ([order](crate#validating-a-chain)).
+///
+/// A line is `PLACE ANCHOR KEY ALGORITHM SIGNED BITS`, as `cert_tool questions` prints it:
+///
+/// - PLACE is the index of the certificate, and ANCHOR that of the trust anchor, or `-`. A verifier
+///   ignores both.
+/// - KEY is the SubjectPublicKeyInfo, ALGORITHM the AlgorithmIdentifier, SIGNED the signed bytes,
+///   and BITS the BIT STRING of the signature, each in DER and in hex.
 ///
 /// # Errors
 ///
-/// - `Faulty`: the chain isn't a sequence of certificates of at most `limit` bytes each.
+/// - `Faulty`: the chain isn't a sequence of certificates of at most `limit` bytes each. For the
+///   position and the kind of the error, call [`verify`] without answers.
 /// - `Empty`: the chain is empty.
 /// - `Arguments`: the trust anchors are wrong, or have 2^32 bytes or more, or the limit is below 6.
 /// - `Memory`: out of memory.
@@ -309,8 +362,14 @@ pub fn questions(anchors: &[u8], chain: &[u8], limit: u32) -> Result<String> {
     calls::questions(anchors, chain, limit).map(text)
 }
 
-/// Validates a chain. `answers` are the lines of [`questions`] whose signatures your verifier has
-/// accepted; all other signatures count as invalid. Neither host names nor revocation are checked.
+/// Validates a chain, which is in the form and the order that [`questions`] takes. `answers` are
+/// the lines of [`questions`] whose signatures your verifier has accepted; all other signatures
+/// count as invalid. Neither host names nor revocation are checked.
+///
+/// **A chain that isn't trusted is `Ok`, too**: call [`Verdict::is_trusted`].
+///
+/// Whoever writes the answers decides which signatures are valid. Don't confuse `answers` with
+/// `chain`, which may come from a stranger.
 ///
 /// # Errors
 ///
@@ -320,9 +379,9 @@ pub fn verify(answers: &[u8], chain: &[u8], terms: &Terms<'_>) -> Result<Verdict
     calls::verify(answers, chain, terms)
 }
 
-/// Returns the TBSCertificate at an index of the chain that an orders file describes. The root has
-/// index 0. You have to sign these bytes by `algorithm` (an AlgorithmIdentifier in DER): those of
-/// the root with its own key, and all others with the key of the order before.
+/// Returns the TBSCertificate at an index of the chain that an orders file describes (docs/CLI.md,
+/// "Orders"). The root has index 0. Sign these bytes with `algorithm` (an AlgorithmIdentifier in
+/// DER): those of the root with its own key, and all others with the key of the preceding order.
 ///
 /// # Errors
 ///
@@ -335,11 +394,14 @@ pub fn signed_part(orders: &str, place: u32, algorithm: &[u8]) -> Result<Vec<u8>
 }
 
 /// Returns the certificate at an index, with `signature` as the signature of its TBSCertificate.
-/// The signature isn't verified: use [`verify`] on the whole chain, with its root as trust anchor.
+///
+/// `signature` is the bytes that a signer such as `ring` returns, and not a BIT STRING in DER: for
+/// ECDSA, the DER of an Ecdsa-Sig-Value (RFC 3279 2.2.3), which is `ecdsa::der::Signature` of
+/// RustCrypto. It isn't verified: use [`verify`] on the whole chain, with its root as trust anchor.
 ///
 /// # Errors
 ///
-/// Those of [`signed_part`]. `Arguments` also means that the signature is too long.
+/// The errors of [`signed_part`]. `Arguments` is also returned if the signature is too long.
 pub fn issue(orders: &str, place: u32, algorithm: &[u8], signature: &[u8]) -> Result<Vec<u8>> {
     calls::issue(orders.as_bytes(), place, algorithm, signature)
 }

@@ -24,7 +24,8 @@ pub enum Rule {
     AgainstPurpose = 8,
     /// Another certificate follows, and this one isn't a CA's (6.1.4 (k), (n)).
     NotAuthority = 9,
-    /// The certificate is a CA beyond the path length of an earlier one (6.1.4 (l), (m)).
+    /// The certificate is an intermediate CA, not self-issued, beyond the path length of an earlier
+    /// one (6.1.4 (l), (m)).
     PathTooLong = 10,
     /// The verifier doesn't accept the signature over the TBSCertificate (6.1.3 (a)(1)).
     WrongSignature = 11,
@@ -107,7 +108,8 @@ pub enum ChainFault {
     /// The certificate has more bytes than the limit, or the chain up to its end has 2^64 bytes or
     /// more.
     TooLarge = 5,
-    /// The bytes aren't a certificate in DER.
+    /// The bytes aren't a certificate in DER, or have a value that isn't supported, such as a date
+    /// before 1970.
     Malformed = 6,
     /// The chain ends inside a certificate.
     Truncated = 7,
@@ -132,7 +134,7 @@ impl ChainFault {
 
 /// The kinds of decoding errors. docs/ENCODING.md says which bytes cause which of them.
 /// `EncodingRules`, `Failed`, `OidUnknown`, `OutOfMemory`, `Reader` and `TagModeUnknown` aren't
-/// errors of bytes.
+/// errors of bytes, so [`crate::fault_of`] never returns them.
 #[derive(Clone, Copy, Debug, PartialEq, Eq)]
 #[repr(u8)]
 pub enum FaultKind {
@@ -154,8 +156,7 @@ pub enum FaultKind {
     Noncanonical = 8,
     /// The bytes aren't an object identifier.
     OidMalformed = 9,
-    /// The caller's protocol doesn't know an object identifier. No function of these crates returns
-    /// this error.
+    /// The caller's protocol doesn't know an object identifier.
     OidUnknown = 10,
     /// An allocation failed.
     OutOfMemory = 11,

@@ -122,10 +122,9 @@ fn a_chain_is_trusted_by_its_answers() {
     let (root, chain, answers) = files_of_chain();
     let questions = wurstdrape::questions(&root, &chain, wurstdrape::LIMIT).unwrap();
     assert_eq!(questions.as_bytes(), answers);
-    assert_eq!(
-        wurstdrape::verify(&answers, &chain, &terms(&root)),
-        Ok(Verdict::Trusted)
-    );
+    let verdict = wurstdrape::verify(&answers, &chain, &terms(&root));
+    assert_eq!(verdict, Ok(Verdict::Trusted));
+    assert!(verdict.unwrap().is_trusted());
 
     // without the answer for the first certificate
     let second = questions.find('\n').unwrap() + 1;

@@ -6,12 +6,25 @@ issues certificate chains.
     wurstdrape.describe(der)                        # a dict
     wurstdrape.verify(roots, [ca, server]).trusted  # with `cryptography` as verifier
 
-Each function calls functions of `wurstdrape.h`, whose contracts are proved. The texts that
-`describe` and `describe_text` return are only tested, and so is this module. docs/FROM_OTHERS.md of
-the repository says what is proved about each function, and the glossary in docs/TRUST.md explains
-the words of the names, such as `REFUSED` and `place`. Bytes are DER, except for answers, orders
-files, texts and the content bytes of OIDs. Input that can't be decoded raises `Malformed`, other
-errors raise `Error`, and `MemoryError` is raised if memory runs out.
+Each function calls functions of `wurstdrape.h`. Each of those is proved to meet its contract,
+provided that its caller does what the header requires. This module does, except for one condition
+that your program must meet: don't call a function in the child after `fork` if the process has
+several threads (with `multiprocessing`, use "spawn"). Threads may call the functions at the same
+time. What `describe` and `describe_text` return is only tested, and so is this module.
+docs/FROM_OTHERS.md of the repository says what is proved about each function, and the glossary in
+docs/TRUST.md explains the words of the names, such as `REFUSED` and `place`.
+
+Arguments and results that are `bytes` are DER, except for questions and answers, signatures, serial
+numbers and the content bytes of OIDs. PEM isn't accepted: `ssl.PEM_cert_to_DER_cert` converts one
+certificate. Where several certificates are expected (`Several`), pass a list, or their bytes one
+after another.
+
+A certificate, CRL, CSR, name or OID that can't be decoded raises `Malformed`, which is a subclass
+of `Error`. Wrong trust anchors, answers, orders files and algorithms raise `Error`. For a chain
+that can't be decoded, `questions` raises `Malformed`, and `judge` and `verify` return a verdict
+whose status is FAULTY. A number that doesn't fit into the argument of a function raises
+`ValueError`, and `MemoryError` is raised if memory runs out. The variable `WURSTDRAPE_LIBRARY`
+names another libwurstdrape.so than the one in the wheel.
 """
 
 from __future__ import annotations
@@ -42,12 +55,14 @@ SERVER_AUTH = "1.3.6.1.5.5.7.3.1"
 Octets = typing.Union[bytes, bytearray, memoryview]
 # Bytes, or several values that are concatenated.
 Several = typing.Union[Octets, typing.Iterable[Octets]]
-# A number is seconds since 1970, and None is the present time.
+# A number is seconds since 1970, and None is the present time. A datetime without a time zone is in
+# local time. Times before 1970 raise ValueError.
 Moment = typing.Union[datetime.datetime, int, None]
 
 
 class Status(enum.IntEnum):
-    """The statuses that the functions of `wurstdrape.h` return."""
+    """The statuses that the functions of `wurstdrape.h` return. docs/FROM_OTHERS.md says what each
+    of them means ("Statuses")."""
 
     DONE = 0
     REFUSED = 1
@@ -59,7 +74,8 @@ class Status(enum.IntEnum):
 
 
 class Kind(enum.Enum):
-    """The kinds of values that can be decoded."""
+    """The kinds of values that can be decoded: a certificate, a CRL (`LIST`) or a CSR
+    (`REQUEST`)."""
 
     CERTIFICATE = "certificate"
     LIST = "list"
@@ -67,7 +83,9 @@ class Kind(enum.Enum):
 
 
 class Rule(enum.IntEnum):
-    """The rules for each certificate of a chain (RFC 5280 6.1), in the order of the checks."""
+    """The rules for each certificate of a chain (RFC 5280 6.1), in the order of the checks.
+
+    docs/CLI.md says what each rule requires ("Rules")."""
 
     ALGORITHMS_DIFFER = 1
     DUPLICATE_EXTENSION = 2
@@ -83,7 +101,8 @@ class Rule(enum.IntEnum):
 
 
 class ChainFault(enum.IntEnum):
-    """The errors of bytes that aren't a sequence of certificates."""
+    """The errors of bytes that aren't a sequence of certificates. docs/CLI.md explains each of them
+    ("Rules")."""
 
     NO_CERTIFICATE = 1
     INDEFINITE = 2
@@ -95,7 +114,7 @@ class ChainFault(enum.IntEnum):
 
 
 class OrderFault(enum.IntEnum):
-    """The reasons why orders are rejected."""
+    """The reasons why orders are rejected. docs/tables/ORDERS.md explains each of them."""
 
     NO_ORDERS = 21
     NAME = 22
@@ -108,7 +127,10 @@ class OrderFault(enum.IntEnum):
 
 
 class FaultKind(enum.IntEnum):
-    """The kinds of decoding errors. docs/ENCODING.md says which bytes cause which of them."""
+    """The kinds of decoding errors. docs/ENCODING.md says which bytes cause which of them.
+
+    ENCODING_RULES, FAILED, OID_UNKNOWN, OUT_OF_MEMORY, READER and TAG_MODE_UNKNOWN aren't errors of
+    bytes."""
 
     DATE_TIME = 1
     ENCODING_RULES = 2
@@ -137,10 +159,12 @@ class FaultKind(enum.IntEnum):
 
 @dataclasses.dataclass(frozen=True)
 class Fault:
-    """The first error that decoding meets. Its kind is proved, its position only tested."""
+    """The first error that decoding meets. Its kind is proved, its position only tested.
+
+    `octet` is the index of the byte at which it was found, counted from 0, or None if it isn't
+    known."""
 
     kind: FaultKind
-    # The index of the byte at which it was found, counted from 0, or None if it isn't known.
     octet: int | None
 
 
@@ -173,29 +197,35 @@ class Validity:
 
 @dataclasses.dataclass(frozen=True)
 class Parts:
-    """The parts of a certificate (RFC 5280 4.1). They refer to its bytes; nothing is copied."""
+    """The parts of a certificate (RFC 5280 4.1). They refer to its bytes; nothing is copied.
 
-    # The TBSCertificate, which is the signed part.
+    - `signed_part`: the TBSCertificate.
+    - `serial_number`: the content bytes: two's complement, most significant byte first.
+    - `issuer`, `subject`: the names in DER.
+    - `public_key`: the SubjectPublicKeyInfo, which contains the public key and its algorithm."""
+
     signed_part: memoryview
-    # The content bytes: two's complement, most significant byte first.
     serial_number: memoryview
-    # The names in DER.
     issuer: memoryview
     subject: memoryview
-    # The SubjectPublicKeyInfo, which contains the public key and its algorithm.
     public_key: memoryview
 
 
 @dataclasses.dataclass(frozen=True)
 class Verdict:
-    """The verdict on a chain."""
+    """The verdict on a chain. It is true exactly if the chain is trusted.
+
+    - `status`: DONE if the chain is trusted, REFUSED if a certificate breaks a rule, FAULTY if the
+      chain isn't a sequence of certificates, and EMPTY if it is empty.
+    - `place`: with REFUSED, the index of the first certificate that breaks a rule. A trust anchor
+      issued the certificate at index 0. With FAULTY, the number of certificates before the error.
+    - `rule`: with REFUSED, the first rule that this certificate breaks.
+    - `offset`, `fault`: with FAULTY, the index of the first byte after these certificates, and the
+      kind of the error."""
 
     status: Status
-    # The index of the certificate that breaks the rule, or the number of certificates before the
-    # error.
     place: int | None = None
     rule: Rule | None = None
-    # The index of the first byte that doesn't belong to a certificate, and the kind of the error.
     offset: int | None = None
     fault: ChainFault | None = None
 
@@ -204,13 +234,22 @@ class Verdict:
         """Whether the chain is trusted."""
         return self.status is Status.DONE
 
+    def __bool__(self) -> bool:
+        return self.trusted
+
 
 @dataclasses.dataclass(frozen=True)
 class Audit:
-    """Whether the chain that an orders file describes will be trusted."""
+    """The answer of `audit`: whether the chain that an orders file describes will be trusted. It is
+    true exactly if it will.
+
+    - `status`: DONE if it will be trusted, and REFUSED otherwise.
+    - `place`: with REFUSED, the index of the certificate that breaks a rule, or of the order that
+      is rejected.
+    - `rule`, `fault`: with REFUSED, the rule, or the reason why the order is rejected. The other
+      one is None."""
 
     status: Status
-    # The index of the certificate that breaks the rule, or of the order that is rejected.
     place: int | None = None
     rule: Rule | None = None
     fault: OrderFault | None = None
@@ -221,9 +260,14 @@ class Audit:
         within the size limit of the validation."""
         return self.status is Status.DONE
 
+    def __bool__(self) -> bool:
+        return self.trusted
+
 
 # The structures of wurstdrape.h.
 _BOOL, _U32, _U64, _SIZE = ctypes.c_bool, ctypes.c_uint32, ctypes.c_uint64, ctypes.c_size_t
+# The numbers of bits of numbers. `ctypes` would drop all further bits of an argument.
+_BITS = {_U32: 32, _U64: 64}
 
 
 def _structure(**fields) -> type[ctypes.Structure]:
@@ -304,6 +348,9 @@ def _run(call, *values) -> Status:
             arguments.append(value)
             value = len(value)
         arguments.append(value)
+    for kind, value in zip(call.argtypes, arguments):
+        if kind in _BITS and not 0 <= value < 2 ** _BITS[kind]:
+            raise ValueError(f"{value} isn't from 0 to 2^{_BITS[kind]} - 1")
     return call(*arguments)
 
 
@@ -361,14 +408,14 @@ def show(der: Octets, kind: Kind = Kind.CERTIFICATE) -> str:
 
 
 def describe_text(der: Octets, kind: Kind = Kind.CERTIFICATE) -> str:
-    """Returns the description, as `cert_tool describe` prints it. It isn't proved."""
+    """Returns the description, as `cert_tool describe` prints it. The text isn't proved."""
     return _written(kind, _of(kind, "describe"), der, False).decode()
 
 
 def describe(der: Octets, kind: Kind = Kind.CERTIFICATE) -> dict:
     """Returns the description as a dict, decoded from the output of `cert_tool describe --json`.
 
-    It isn't proved."""
+    Its contents aren't proved."""
     return json.loads(_written(kind, _of(kind, "describe"), der, True))
 
 
@@ -416,7 +463,7 @@ def extension(der: Octets, identifier: str) -> tuple[memoryview, bool] | None:
     it is critical, or None if there is no such extension.
 
     A second extension with the same OID, which RFC 5280 4.2 forbids and `verify` rejects, isn't
-    reported."""
+    reported. Raises `Malformed` if `identifier` isn't an OID."""
     span, critical = _Span(), _BOOL()
     octets = identifier_of_text(identifier)
     status = _run(_library.wd_extension, der, octets, span, critical)
@@ -463,8 +510,17 @@ def questions(anchors: Several, chain: Several, limit: int = LIMIT) -> list[byte
     """Returns a line for each signature that has to be verified to validate a chain, as
     `cert_tool questions` prints them.
 
-    The first certificate of the chain is the one that a trust anchor issued. Trust anchors are
-    certificates, or others of RFC 5914."""
+    The first certificate of the chain is the one that a trust anchor issued (the reverse of the
+    order of TLS). Trust anchors are certificates, or the other forms of RFC 5914.
+
+    A line is `PLACE ANCHOR KEY ALGORITHM SIGNED BITS` and a newline. PLACE is the index of the
+    certificate, and ANCHOR that of the trust anchor, or `-`; a verifier ignores both. The other
+    four are in hex: KEY is the SubjectPublicKeyInfo, ALGORITHM the AlgorithmIdentifier, SIGNED the
+    signed bytes, and BITS the BIT STRING of the signature, each in DER.
+
+    Raises `Malformed` if the chain isn't a sequence of certificates of at most `limit` bytes each,
+    and `Error` if it is empty, if the trust anchors can't be decoded or have 2^32 bytes or more, or
+    if `limit` is below 6."""
     lent = _joined(anchors), _joined(chain), limit
     return _written("a chain", _library.wd_questions, *lent).splitlines(keepends=True)
 
@@ -480,9 +536,14 @@ def judge(
     """Validates a chain with the answers of a signature verifier.
 
     `answers` are the lines of `questions` whose signatures the verifier has accepted; all other
-    signatures count as invalid. `at` is the validation time; the default is the present time.
-    Neither host names nor revocation are checked. Raises `Error` if the trust anchors, the answers
-    or the limit are wrong, and `Malformed` if the purpose isn't an OID."""
+    signatures count as invalid. `anchors`, `chain` and `limit` are those of `questions`. `at` is
+    the validation time: seconds since 1970-01-01T00:00:00Z, or a datetime, which is in local time
+    if it has no time zone. The default is the present time. `purpose` is the OID of the key purpose
+    that extKeyUsage must permit (RFC 5280 4.2.1.12); the default is serverAuth.
+
+    Neither host names nor revocation are checked; docs/CLI.md lists what else isn't. A chain that
+    isn't trusted raises no error: test `.trusted` of the verdict. Raises `Error` if the trust
+    anchors, the answers or the limit are wrong, and `Malformed` if the purpose isn't an OID."""
     told = _Place()
     lent = _joined(answers), _joined(anchors), _joined(chain), _seconds(at)
     status = _run(_library.wd_verify, *lent, identifier_of_text(purpose), limit, told)
@@ -505,9 +566,19 @@ def verify(
 ) -> Verdict:
     """Validates a chain under roots: calls `questions`, the verifier for each line, and `judge`.
 
+    `chain` is a list of certificates, or their bytes one after another: the certificate that a root
+    issued comes first (the reverse of the order of TLS). Usually, leave the root out of the chain:
+    if the chain contains it, the root must keep every rule, too (for example, its dates are
+    checked). The other arguments and the errors are those of `judge`. Neither host names nor
+    revocation are checked; docs/CLI.md lists what else isn't. A chain that isn't trusted raises no
+    error: test `.trusted` of the verdict.
+
     `verifier` returns whether the signature of a line of `questions` is valid. The default uses
-    Python's `cryptography`, and raises `ImportError` if that isn't installed. If the chain isn't a
-    sequence of certificates, the verifier isn't called."""
+    Python's `cryptography`, in the module `answer`, of which nothing is proved and which lists the
+    algorithms. Signatures with other algorithms count as invalid, and those with SHA-1 are
+    accepted. The sizes of keys aren't checked beyond what `cryptography` checks. `verify` raises
+    `ImportError` if no `verifier` is given and `cryptography` isn't installed. If the chain is
+    empty, or isn't a sequence of certificates, the verifier isn't called."""
     roots, chain = _joined(roots), _joined(chain)
     if verifier is None:
         import cryptography  # noqa: F401
@@ -529,31 +600,38 @@ def verify(
 def signed_part(orders: str, place: int, algorithm: Octets) -> bytes:
     """Returns the TBSCertificate at an index of the chain that an orders file describes.
 
-    The root has index 0. You have to sign these bytes by `algorithm` (an AlgorithmIdentifier in
-    DER): those of the root with its own key, and all others with the key of the order before.
+    `orders` is the text of the orders file (not its path), whose format docs/CLI.md describes
+    ("Orders"). The root has index 0. Sign these bytes with `algorithm` (an AlgorithmIdentifier in
+    DER): those of the root with its own key, and all others with the key of the preceding order.
     Raises `Error` if the orders are malformed or rejected, if the chain has no certificate at this
     index, or if the algorithm is malformed."""
     return _written("a chain", _issuing().wd_signed_part, orders, place, algorithm)
 
 
 def issued(orders: str, place: int, algorithm: Octets, signature: Octets) -> bytes:
-    """Returns the certificate at an index, with `signature` as the signature of its
-    TBSCertificate.
+    """Returns the certificate at an index of the chain that an orders file describes, with your
+    signature.
 
-    The signature isn't verified: use `verify` on the whole chain, with its root as trust
-    anchor."""
+    `orders` is as in `signed_part`. `signature` is the signature of what `signed_part` returns for
+    this index, as the bytes that the method `sign` of a private key of `cryptography` returns.
+    (`issue` makes the whole chain.) The signature isn't verified. To verify all of them, including
+    the root's own, pass the whole chain, with the root: `verify(chain[0], chain)`. Raises the
+    errors of `signed_part`, and `Error` if the signature is too long."""
     return _written("a chain", _issuing().wd_issue, orders, place, algorithm, signature)
 
 
 def issue(
     orders: str, algorithm: Octets, sign: typing.Callable[[int, bytes], bytes]
 ) -> list[bytes]:
-    """Issues the certificates that an orders file describes, the root first, all by one
-    algorithm.
+    """Issues the certificates that an orders file describes, the root first, all signed with
+    one algorithm.
 
-    `sign` takes the index of the certificate whose key signs (0 for the root) and the bytes to
-    sign, and returns the signature. The signatures aren't verified: use `verify` with the root as
-    trust anchor."""
+    `orders` is as in `signed_part`. `sign` takes the index of the certificate whose key signs (0
+    for the root) and the bytes to sign, and returns the signature, as the bytes that the method
+    `sign` of a private key of `cryptography` returns. The signatures aren't verified. To verify
+    them, including the root's own, pass the whole chain: `verify(chain[0], chain)`. Raises `Error`
+    if the orders are malformed or rejected, if the algorithm is malformed, or if a signature is too
+    long."""
     certificates: list[bytes] = []
     while True:
         place = len(certificates)
@@ -574,8 +652,9 @@ def audit(
     trusted under its own root, if all its signatures are valid and each certificate is within the
     size limit of the validation.
 
-    Nothing is signed. `at` is the validation time; the default is the present time. Raises `Error`
-    if the orders file or the algorithm is malformed."""
+    Nothing is signed. `orders` is as in `signed_part`, and `at` and `purpose` are as in `judge`.
+    Raises `Error` if the orders file or the algorithm is malformed, and `Malformed` if the purpose
+    isn't an OID."""
     told = _Reason()
     lent = orders, algorithm, _seconds(at), identifier_of_text(purpose)
     status = _run(_issuing().wd_audit, *lent, told)
