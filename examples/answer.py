@@ -4,8 +4,8 @@
     cert_tool questions ... | answer.py > ANSWERS
 
 Reads the lines of `cert_tool questions` from standard input, and copies each line whose signature
-is valid to standard output: the file of `cert_tool verify --answers`. It is installed as
-cert_tool_answer.
+is valid to standard output. The output is the file for `cert_tool verify --answers`. The script
+isn't proved. It is installed as cert_tool_answer.
 
 Signatures: RSASSA-PKCS1-v1_5 and RSASSA-PSS (RFC 8017, RFC 4055), ECDSA over named curves
 (RFC 5480, RFC 5758), Ed25519 and Ed448 (RFC 8410). A line isn't copied if its signature is invalid,

@@ -1,32 +1,48 @@
 #!/usr/bin/env python3
 """Validates a certificate chain in PEM, as a server sends it, under root certificates in PEM.
 
-    verify_pem.py ROOTS CHAIN [--host NAME] [--strict] [--warn-days DAYS] [--at TIME]
-                  [--purpose PURPOSE] [--tool CERT_TOOL]
+    verify_pem.py ROOTS CHAIN [--host NAME] [--strict] [--warn-days DAYS]
+        [--at TIME] [--purpose PURPOSE] [--tool CERT_TOOL]
 
 ROOTS        trusted root certificates, such as /etc/ssl/certs/ca-certificates.crt
-CHAIN        the server's certificate first, followed by each issuer in turn; other text is ignored
+CHAIN        the server's certificate first, followed by each issuer in turn
 --host       rejects a server's certificate that isn't valid for this DNS name or IP address
---strict     also checks requirements that aren't among the rules, as `cert_tool verify` does
+--strict     also rejects name constraints, a key usage of the server's certificate that doesn't fit
+             the key purpose, and a root that breaks a rule, such as an expired one
 --warn-days  the status is 7 if a trusted chain ends within this number of days
---at         the validation time: `now` (default), a date, or seconds since 1970
---purpose    the key purpose (default: serverAuth)
+--at         the validation time: `now` (default), a date such as 2026-09-21T14:13:20Z, or seconds
+             since 1970
+--purpose    the key purpose: serverAuth (default), or another that `cert_tool verify --help` lists
 --tool       the program `cert_tool` (default: beside this script, or built in this repository)
 
-`-` is standard input. Host names are checked only with --host, and revocation isn't checked. The
-script is installed as cert_tool_verify_pem.
+ROOTS or CHAIN, but not both, can be `-`, standard input. Text and blocks without certificates, such
+as a private key, are ignored. Host names are checked only with --host, and revocation isn't
+checked. Name constraints and policies are ignored; if they are critical, the chain is rejected.
+Signatures with SHA-1 are accepted. The script isn't proved. It is installed as
+cert_tool_verify_pem.
 
-The first certificate of CHAIN is always the one that is validated. Certificates after the first one
-that a root of ROOTS issued are ignored, such as the root itself; the error output names them. Each
-certificate must be the issuer of the one before it, and an ignored one of any before it. Names are
-compared byte for byte.
+The first certificate of CHAIN is always the one that is validated. Each certificate must be the
+issuer of the one before it. The chain ends with the first certificate whose issuer has the name of
+a root of ROOTS. Further certificates, such as the root itself, are ignored, and named on the error
+output; each of them must be the issuer of some certificate before it. Names are compared byte for
+byte.
 
-The script reverses the chain, runs `cert_tool questions`, verifies the signatures with answer.py,
-and runs `cert_tool verify`. If the chain isn't trusted, it also prints what `cert_tool explain`
-says. The status is 0 if the chain is trusted, 7 if it is trusted and ends soon, and 1 if it breaks
-a rule, or a limit of --host or --strict. It is 2 if a certificate of CHAIN can't be decoded. It is
-4 if an argument is wrong, if ROOTS or CHAIN has no certificate, if ROOTS has one that can't be
-decoded, or if CHAIN is in another order. It is 5 if a file or a program can't be read.
+The script reverses the chain, runs `cert_tool questions`, verifies the signatures with answer.py
+(installed as cert_tool_answer), and runs `cert_tool verify`. If the chain isn't trusted, it also
+prints what `cert_tool explain chain` reports. In the lines of `cert_tool`, index 0 is the
+certificate that a root issued. The messages of the script count the certificates of the file from
+1.
+
+Exit status:
+0  the chain is trusted
+1  the chain breaks a rule, or a stricter check of --host or --strict
+2  a certificate of CHAIN can't be decoded, or has more than 65536 bytes
+4  an argument is wrong; ROOTS or CHAIN has no certificate (a server that can't be reached sends
+   none), a damaged one, or one in another form, such as PKCS #7; ROOTS has one that can't be
+   decoded; or CHAIN is in another order
+5  a file can't be read or written, or `cert_tool` or Python's `cryptography` can't be run
+6  memory ran out in `cert_tool`
+7  the chain is trusted, and ends within the days of --warn-days
 """
 
 import argparse
@@ -36,14 +52,21 @@ import ssl
 import subprocess
 import sys
 import tempfile
+import traceback
 
 HERE = pathlib.Path(__file__).resolve().parent
 # If this script is installed, the program and the verifier are in its folder.
 TOOLS = HERE / "cert_tool", HERE.parent / "crates/cert_tool/out/cert_tool"
 VERIFIERS = HERE / "cert_tool_answer", HERE / "answer.py"
-REFUSED, FAULTY, ARGUMENTS, DEVICE, ENDING = 1, 2, 4, 5, 7
+TRUSTED, REFUSED, FAULTY, ARGUMENTS, DEVICE, MEMORY, ENDING = 0, 1, 2, 4, 5, 6, 7
 NAME = pathlib.Path(sys.argv[0]).name
-HEADER, FOOTER = "-----BEGIN CERTIFICATE-----", "-----END CERTIFICATE-----"
+# The labels of a certificate in PEM (RFC 7468 5).
+LABELS = "CERTIFICATE", "X509 CERTIFICATE"
+# What converts blocks that hold certificates in another form.
+CONVERTERS = {
+    "TRUSTED CERTIFICATE": "; `openssl x509 -in FILE` writes its certificate",
+    "PKCS7": "; `openssl pkcs7 -print_certs -in FILE` writes its certificates",
+}
 
 
 def stop(status, why):
@@ -57,10 +80,30 @@ class Parser(argparse.ArgumentParser):
         self.print_usage(sys.stderr)
         stop(ARGUMENTS, message)
 
+    def format_help(self):
+        return __doc__.replace("verify_pem.py", NAME)
+
 
 def there(paths):
     """Returns the first of these paths that is a file, or the last one."""
     return next(filter(pathlib.Path.is_file, paths), paths[-1])
+
+
+def holds_certificates(label):
+    """Returns whether a block that isn't a certificate holds some. If it were ignored, another
+    certificate could become the first one."""
+    return "CERTIFICATE" in label and "REQUEST" not in label or label in ("PKCS7", "CMS")
+
+
+def certificate_in(file, number, label, block):
+    """Returns the encoding of the certificate in this block, which begins after the BEGIN line."""
+    inside, footer, _ = block.partition(f"-----END {label}-----")
+    try:
+        if not footer:
+            raise ValueError("its END line is missing")
+        return ssl.PEM_cert_to_DER_cert(ssl.PEM_HEADER + inside + ssl.PEM_FOOTER)
+    except ValueError as why:
+        stop(ARGUMENTS, f"{file}: certificate {number} isn't PEM: {why}")
 
 
 def certificates(file):
@@ -69,16 +112,14 @@ def certificates(file):
         text = pathlib.Path("/dev/stdin" if file == "-" else file).read_text("latin-1")
     except OSError as why:
         stop(DEVICE, f"cannot read {file}: {why.strerror}")
-    found, number = [], 0
-    for block in text.split(HEADER)[1:]:
-        number += 1
-        inside, footer, _ = block.partition(FOOTER)
-        try:
-            if not footer:
-                raise ValueError("its END line is missing")
-            found.append(ssl.PEM_cert_to_DER_cert(HEADER + inside + FOOTER))
-        except ValueError as why:
-            stop(ARGUMENTS, f"{file}: certificate {number} isn't PEM: {why}")
+    found = []
+    for block in text.split("-----BEGIN ")[1:]:
+        label, _, inside = block.partition("-----")
+        if label in LABELS:
+            found.append(certificate_in(file, len(found) + 1, label, inside))
+        elif holds_certificates(label):
+            step = CONVERTERS.get(label, "")
+            stop(ARGUMENTS, f"{file}: a {printable(label)} block can't be read{step}")
     if not found:
         stop(ARGUMENTS, f"{file}: there is no certificate in PEM")
     return found
@@ -131,7 +172,10 @@ class Run:
         (self.folder / name).write_bytes(octets)
 
     def tool_says(self, *words):
-        return subprocess.run([self.tool, *words], cwd=self.folder, capture_output=True)
+        try:
+            return subprocess.run([self.tool, *words], cwd=self.folder, capture_output=True)
+        except OSError as why:
+            stop(DEVICE, f"cannot run {self.tool}: {why.strerror}")
 
     def read(self, file, encodings):
         """Returns the certificates of a file. Stops at the first that can't be decoded."""
@@ -139,15 +183,23 @@ class Run:
         for number, octets in enumerate(encodings, 1):
             self.write("certificate.der", octets)
             described = self.tool_says("describe", "certificate", "--json", "certificate.der")
-            if described.returncode:
+            if described.returncode == FAULTY:
                 print(f"{NAME}: {file}: certificate {number} can't be decoded", file=sys.stderr)
+            if described.returncode:
                 self.end_as(described, {FAULTY: ("certificate", "certificate.der")})
-            chain.append(Certificate(number, octets, json.loads(described.stdout)))
+            chain.append(Certificate(number, octets, self.members(described)))
         return chain
 
+    def members(self, described):
+        """Returns the members of a document of JSON."""
+        try:
+            return json.loads(described.stdout)
+        except ValueError:
+            stop(DEVICE, f"{self.tool} isn't cert_tool: it didn't write JSON")
+
     def asked(self, chain):
-        """Writes the chain up to the first certificate that a root issued, or all of it. Returns
-        the questions of that chain, and its number of certificates."""
+        """Writes the chain up to the first certificate whose issuer has the name of a root, or all
+        of it. Returns the questions of that chain, and its number of certificates."""
         for count in range(1, len(chain) + 1):
             stream = b"".join(certificate.octets for certificate in reversed(chain[:count]))
             self.write("chain.der", stream)
@@ -155,7 +207,7 @@ class Run:
             if asked.returncode:
                 faulty = {FAULTY: ("stream", "chain.der"), ARGUMENTS: ("anchors", "anchors.der")}
                 self.end_as(asked, faulty)
-            # The line of the certificate that a root issued comes first, if there is one.
+            # The line of that certificate comes first, if there is one.
             if asked.stdout.startswith(b"0 "):
                 break
         return asked.stdout, count
@@ -165,6 +217,10 @@ class Run:
         # The error output names files of a temporary folder, so it isn't printed.
         words = faulty.get(said.returncode)
         pass_on(self.tool_says("explain", *words) if words else said)
+        if not words and said.returncode != MEMORY:
+            status = said.returncode
+            how = f"ended with status {status}" if status >= 0 else f"was ended by signal {-status}"
+            stop(DEVICE, f"{self.tool} {how}")
         sys.exit(said.returncode)
 
     def answers(self, questions):
@@ -200,9 +256,9 @@ def tell_left_out(chain, count):
         print(f"{NAME}: ignored {certificate}: {why}", file=sys.stderr)
 
 
-def tell_end(chain, count, place):
-    """Prints when the certificate at this index of the reversed chain ends, unless `place` is
-    `anchor`."""
+def tell_end(chain, count, printed):
+    """Prints when the certificate ends that the line `ends PLACE` is about, unless a root ends."""
+    place = next(line.split()[1] for line in printed.splitlines() if line.startswith(b"ends "))
     if place.isdigit():
         ending = chain[count - 1 - int(place)]
         print(f"{NAME}: {ending} is valid until {ending.not_after}", file=sys.stderr)
@@ -214,9 +270,8 @@ def pass_on(said):
     sys.stderr.buffer.write(said.stderr)
 
 
-def main():
-    form = argparse.RawDescriptionHelpFormatter
-    parser = Parser(description=__doc__, formatter_class=form)
+def arguments():
+    parser = Parser()
     parser.add_argument("roots", metavar="ROOTS")
     parser.add_argument("chain", metavar="CHAIN")
     parser.add_argument("--host", metavar="NAME")
@@ -225,7 +280,31 @@ def main():
     parser.add_argument("--at", default="now", metavar="TIME")
     parser.add_argument("--purpose", default="serverAuth")
     parser.add_argument("--tool", default=there(TOOLS), metavar="CERT_TOOL")
-    words = parser.parse_args()
+    return parser.parse_args()
+
+
+def verify(run, words, chain, count):
+    """Prints the verdict on the chain, and why it is rejected. Returns the status."""
+    files = ["chain.der", "--anchors", "anchors.der", "--answers", "answers"]
+    terms = [f"--at={words.at}", f"--purpose={words.purpose}"]
+    terms += [f"--host={words.host}"] * (words.host is not None) + ["--strict"] * words.strict
+    warns = [f"--warn-days={words.warn_days}"] * (words.warn_days is not None)
+    verified = run.tool_says("verify", *files, *terms, *warns)
+    if verified.returncode not in (TRUSTED, REFUSED, ARGUMENTS, ENDING):
+        run.end_as(verified, {})
+    if verified.returncode == REFUSED:
+        # The hints of `verify` are followed here.
+        verified.stderr = b""
+    pass_on(verified)
+    if verified.returncode == REFUSED:
+        pass_on(run.tool_says("explain", "chain", *files, *terms))
+    if verified.returncode == ENDING:
+        tell_end(chain, count, verified.stdout)
+    return verified.returncode
+
+
+def main():
+    words = arguments()
     tool = pathlib.Path(words.tool).absolute()
     if not tool.is_file():
         stop(DEVICE, f"{tool} not found: install cert_tool, or give its path with --tool")
@@ -238,21 +317,15 @@ def main():
         compare_order(words.chain, chain, count)
         tell_left_out(chain, count)
         run.write("answers", run.answers(questions))
-        files = ["chain.der", "--anchors", "anchors.der", "--answers", "answers"]
-        terms = [f"--at={words.at}", f"--purpose={words.purpose}"]
-        terms += [f"--host={words.host}"] * (words.host is not None) + ["--strict"] * words.strict
-        warns = [f"--warn-days={words.warn_days}"] * (words.warn_days is not None)
-        verified = run.tool_says("verify", *files, *terms, *warns)
-        if verified.returncode == REFUSED:
-            # The hints of `verify` are followed here.
-            verified.stderr = b""
-        pass_on(verified)
-        if verified.returncode == REFUSED:
-            pass_on(run.tool_says("explain", "chain", *files, *terms))
-        if verified.returncode == ENDING:
-            tell_end(chain, count, verified.stdout.decode().split()[-1])
-    sys.exit(verified.returncode)
+        sys.exit(verify(run, words, chain, count))
 
 
 if __name__ == "__main__":
-    main()
+    # Python ends with status 1 after an exception, which would be a verdict here.
+    try:
+        main()
+    except OSError as why:
+        stop(DEVICE, why)
+    except Exception:
+        traceback.print_exc()
+        sys.exit(DEVICE)

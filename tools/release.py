@@ -1,42 +1,41 @@
 #!/usr/bin/env python3
 """Makes, installs, unpacks and confirms releases, and proves crates in advance.
 
-    release.py make [--built CLONE] FOLDER          clones the last commit, runs CI there, and
-                                                    writes the release to FOLDER; with --built it
-                                                    takes the results of CI in CLONE
-    release.py install [--from RELEASE] PREFIX      installs the programs with their scripts, man
-                                                    pages and completion, and from a release also
-                                                    the libraries for C, Rust and Python
-    release.py unpack RELEASE [FOLDER]              installs the proved libraries in the repository
-                                                    FOLDER (default: this one), so that `rt`
-                                                    doesn't prove them again
-    release.py confirm [--kept] RELEASE [CRATE...]  proves the release again from its commit, and
-                                                    compares every file
-    release.py prove CRATE...                       proves crates and their dependencies, with all
-                                                    processors
+    release.py make [--built CLONE] FOLDER          makes a release
+    release.py install [--from RELEASE] PREFIX      installs the programs
+    release.py unpack RELEASE [FOLDER]              installs the proved libraries in a repository
+    release.py confirm [--kept] RELEASE [CRATE...]  proves a release again, and compares it
+    release.py prove CRATE...                       proves crates and their dependencies
 
 tools/README.md explains what a release contains. The status is 0 on success, 1 if something
 differs or failed, and 2 if an argument is wrong.
 
-make prints the checksum of SUMS last. Publish it: SUMS has the checksum of every other file. Two
-releases of one commit have the same bytes.
+make clones the last commit, runs CI in the clone, and writes the release to FOLDER. With --built it
+takes the results of CI in CLONE. It prints the checksum of SUMS last. Publish it: SUMS has the
+checksum of every other file. Two releases of one commit have the same bytes.
 
-install verifies the checksums of a release first, and doesn't need the kit. Without --from it
-installs the release that contains this script, or what was built in this repository; a program that
-isn't built is named and left out.
+install copies the programs and their scripts to PREFIX/bin, which has to be on PATH, and man pages,
+completion for bash, pages of docs/ and the licences to PREFIX/share. From a release, it also copies
+the libraries for C, Rust and Python to PREFIX/include, PREFIX/lib and PREFIX/share. It verifies the
+checksums of the release first, prints the path of each file that it installs, and doesn't need the
+kit. Without --from it installs the release that contains this script, or what was built in this
+repository; a program that isn't built is named and left out.
 
-unpack verifies the checksum of each file, the version of the kit, and the commit. If the sources of
-a crate differ from the release, it says so, and `rt` will prove that crate again. Results that
-depend on a replaced library are deleted.
+unpack installs the proved libraries in the repository FOLDER (default: this one), so that `rt`
+doesn't prove them again. It verifies the checksum of each file, the version of the kit, and the
+commit. If the sources of a crate differ from the release, it says so, and `rt` will prove that
+crate again. Results that depend on a replaced library are deleted.
 
-confirm clones the commit of RELEASE, which may be a folder with only its files PROVED and SUMS. It
-runs `rt ci --anew` for these crates and their dependencies (default: all), without mutants, and
-compares each library and program, the bindings and the licences. The bindings depend on gcc,
-binutils and Python of this machine. With --kept it trusts what this machine proved before, and can
-be interrupted and resumed. The clone takes some 10 GB in TMPDIR.
+confirm proves a release again from its commit, and compares every file. RELEASE may be a folder
+with only the files PROVED and SUMS. It clones the commit, runs `rt ci --anew` for these crates and
+their dependencies (default: all), without mutants, and compares each library and program, the
+bindings and the licences. The bindings depend on gcc, binutils and Python of this machine. With
+--kept it trusts what this machine proved before, and can be interrupted and resumed. The clone
+takes some 10 GB in TMPDIR.
 
-prove runs `rt ci` in a copy of the crates, and installs the libraries here. It can be interrupted
-and resumed, because the kit remembers what was proved.
+prove runs `rt ci` for these crates and their dependencies in a copy of the crates, with all
+processors, and installs the libraries here. It can be interrupted and resumed, because the kit
+remembers what was proved.
 """
 
 import collections
@@ -75,6 +74,11 @@ INSTALLED = {
     "docs/man/cert_tool_answer.1": "share/man/man1/cert_tool_answer.1",
     "docs/man/cert_tool_verify_pem.1": "share/man/man1/cert_tool_verify_pem.1",
     "docs/man/cert_tool.bash": f"{COMPLETIONS}/cert_tool",
+    "docs/CLI.md": "share/doc/wurstdrape/CLI.md",
+    "docs/tables/JSON.md": "share/doc/wurstdrape/tables/JSON.md",
+    "docs/tables/ORDERS.md": "share/doc/wurstdrape/tables/ORDERS.md",
+    "docs/tables/REFUSALS.md": "share/doc/wurstdrape/tables/REFUSALS.md",
+    "docs/tables/REMARKS.md": "share/doc/wurstdrape/tables/REMARKS.md",
     "LICENSE-APACHE": "share/doc/wurstdrape/LICENSE-APACHE",
     "LICENSE-MIT": "share/doc/wurstdrape/LICENSE-MIT",
 }
@@ -385,7 +389,7 @@ def install(words):
     found += [(completion, f"{COMPLETIONS}/{name}") for name in names]
     missing = [path for path, place in found if place == "bin/cert_tool" and not path.is_file()]
     if missing:
-        stop(f"{missing[0]} isn't built: use --from RELEASE, or `./x test` (about 3 hours)")
+        stop(f"{missing[0]} isn't built: use --from RELEASE, or `./x test`, which takes hours")
     for path, place in [*found, *(bindings_of(release) if is_release else [])]:
         target = words.prefix / place
         if path.is_file():
@@ -505,12 +509,17 @@ def prove(words):
     return 0
 
 
+def about(name):
+    """Returns the paragraph of the help about one command."""
+    return next(text for text in __doc__.split("\n\n") if text.startswith(f"{name} "))
+
+
 def arguments():
     words = sources.arguments(__doc__)
     verbs = words.add_subparsers(required=True, dest="command")
     of = {}
     for verb in (make, install, unpack, confirm, prove):
-        form = {"description": __doc__, "formatter_class": words.formatter_class}
+        form = {"description": about(verb.__name__), "formatter_class": words.formatter_class}
         of[verb] = verbs.add_parser(verb.__name__, **form)
         of[verb].set_defaults(verb=verb)
     of[make].add_argument("--built", type=pathlib.Path, metavar="CLONE")
@@ -520,7 +529,8 @@ def arguments():
     of[confirm].add_argument("--kept", action="store_true")
     for verb in (unpack, confirm):
         of[verb].add_argument("release", type=pathlib.Path, metavar="RELEASE")
-    of[unpack].add_argument("folder", type=pathlib.Path, nargs="?", default=sources.TOP)
+    of[unpack].add_argument("folder", type=pathlib.Path, nargs="?", default=sources.TOP,
+                            metavar="FOLDER")
     of[confirm].add_argument("crates", nargs="*", metavar="CRATE")
     of[prove].add_argument("crates", nargs="+", metavar="CRATE")
     return words.parse_args()
