@@ -149,7 +149,8 @@ HeldIsRefusedFor =
     stream place rule
     → BreaksFor moment purpose answers (root ∷ below) cs place rule
 
--- The bytes of the chain that the verifier gets at an index are those that the signer got.
+-- The bytes of the chain that the verifier gets at an index are the encoding of the TBSCertificate
+-- there.
 abbrev pub SignedIsSliced : Type 0
 SignedIsSliced =
     (ps : List PlainOrder) (cs : List PlainCertificate) (stream : List ℕ) (place : ℕ)

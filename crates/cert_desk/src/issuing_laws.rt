@@ -48,8 +48,8 @@ pub fn issued_is_trusted<S: Signer>()
     ensures { IssuedIsTrusted S.public_key S.signs_by S.signs }
 {}
 
-/// The bytes of the chain that a verifier gets, at any index, are exactly those that were signed
-/// there.
+/// The bytes of the chain that a verifier gets, at any index, are the encoding of the
+/// TBSCertificate there, for which the signer may return the signature.
 #[tactic(auto, using(crate::proofs::Trusting::signed_is_sliced))]
 pub fn signed_is_sliced()
     ensures { SignedIsSliced }

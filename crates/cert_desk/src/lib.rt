@@ -2,18 +2,22 @@
 //! chains. This crate is the facade of the `cert_desk_*` crates.
 //!
 //! - [`Bundle`] reads a chain in pieces, and [`check`] validates it under trust anchors.
-//!   [`SignatureJudge`] is the trait of signature verifiers.
+//!   [`SignatureJudge`] is the trait of signature verifiers. `check` doesn't match host names,
+//!   check revocation or build paths (docs/CLI.md).
 //! - [`show_certificate`], [`show_list`] and [`show_request`] print certificates, CRLs and CSRs.
 //! - [`issue`] issues the chain that orders ask for, and [`orders_in`] parses orders files.
 //! - [`run_check`], [`run_show`] and [`run_orders`] are complete runs over inputs and outputs.
 //!   [`obey`] runs a command line. The program `cert_desk` runs [`obey_with_reasons`], which says
 //!   why an orders file is wrong.
-//! - [`laws`] are facts about every chain, every file of trust anchors and every issued chain.
+//! - [`laws`] contains theorems about every chain, every file of trust anchors and every issued
+//!   chain.
 //!
-//! This function validates a chain of one certificate, which is the trust anchor too. The program
-//! that it is from also defines `read` and `KeyJudge`.
+//! This function validates a chain of one certificate, which is also the trust anchor. Its file
+//! also defines `read`, which returns the bundle, and `KeyJudge`, a verifier that protects nothing.
+//! docs/GUIDE.md has a program for chains in files. (`answers_in`, with which that program reads a
+//! verifier's answers, is in `cert_desk_answers`.)
 //!
-//! As in `tools/guide/judge.rt.txt`:
+//! From `tools/guide/judge.rt.txt`:
 //!
 //! ```rust
 //! fn judged(alloc: Global, stream: &[u8]) -> Result<String> {
@@ -26,6 +30,7 @@
 //!     let bundle = read(alloc, stream);
 //!     let purpose = ObjectIdentifier::<39>::new("1.3.6.1.5.5.7.3.1")?;
 //!     let mut judge = KeyJudge { questions: 0 };
+//!     // The validation time is 2002-01-01T12:01:00Z.
 //!     match check(alloc, &bundle, &anchors, 1009886460, &purpose, &mut judge) {
 //!         Ok(checked) => Ok(format!(in alloc; "{checked:?}")?),
 //!         Err(error) => Ok(format!(in alloc; "{error}")?),
@@ -33,9 +38,7 @@
 //! }
 //! ```
 //!
-//! The crate depends on `cert_desk_checking`, `cert_desk_listing`, `cert_desk_orders` and
-//! `x509_cert_builders`, and re-exports those of their names that programs need. It doesn't depend
-//! on the crates of `cert_tool`.
+//! The crate re-exports the names of the crates below it that programs need.
 #![tactic(auto)]
 
 mod accepted;

@@ -29,6 +29,26 @@ use std::marker::Model;
 /// Memory is allocated only for bytes that arrived: at most twice their number, but at least 256
 /// bytes. A length that a header announces allocates nothing. No contract states this;
 /// `tests/rows/hostile.py` measures it.
+///
+/// # Examples
+///
+/// From `tools/guide/judge.rt.txt`:
+///
+/// ```rust
+/// /// Reads a chain in one piece. If the chain has an error, the bundle keeps it.
+/// fn read(alloc: Global, stream: &[u8]) -> Bundle
+///     ensures { result.standing ≢ Standing.Open }
+/// {
+///     let mut bundle = Bundle::new(alloc, 4096);
+///     if let Err(_error) = bundle.feed(stream) {
+///         return bundle;
+///     }
+///     if let Err(_error) = bundle.finish() {
+///         return bundle;
+///     }
+///     bundle
+/// }
+/// ```
 #[derive(Drop)]
 pub struct Bundle {
     alloc: Global,
@@ -57,7 +77,8 @@ impl Model for Bundle {
 
 impl Bundle {
     /// Returns an empty bundle that accepts certificates of up to `limit` bytes, which must be at
-    /// least 6.
+    /// least 6. The prover rejects a caller that passes a smaller limit. In a program that isn't
+    /// proved, nothing checks it.
     pub fn new(alloc: Global, limit: u32) -> Bundle
         requires { 6 ≤ limit }
         ensures open { result.standing ≡ Standing.Open }
@@ -145,6 +166,8 @@ impl Bundle {
         ensures reads { OnOk result (ReadsExtended Bound self.old self.new piece.now) }
         ensures kept { OnOk result (kept_octets Bound self.new ≡ kept_octets Bound self.old
             ++ piece.now) }
+        // The certificates have fewer than 2^64 bytes, and the header of the next one, if it is
+        // incomplete, has at most five.
         ensures fits { OnOk result (length (kept_octets Bound self.new) < 2 ^ 64 + 5) }
         // If the piece is rejected.
         ensures refused { IfErr result (RefusesPiece Bound self.old self.new piece.now) }
@@ -161,7 +184,7 @@ impl Bundle {
         Err(self.error())
     }
 
-    /// Ends the input. It doesn't allocate.
+    /// Ends the input, without allocating. A second call changes nothing.
     ///
     /// # Errors
     ///
@@ -211,9 +234,8 @@ impl Bundle {
         })
     }
 
-    /// Reads an input to its end or to an error in it, and ends the bundle. A failed read isn't
-    /// repeated. There is no further read after one that fails, after one that gives bytes with an
-    /// error, or after memory runs out.
+    /// Reads an input to its end or to an error in it, and ends the bundle. It stops reading after
+    /// a failed read, after a read whose bytes contain an error, and when memory runs out.
     ///
     /// # Errors
     ///
@@ -262,6 +284,7 @@ impl Bundle {
         ensures refused { ¬ IsTrue result → RefusesPiece Bound self.old self.new piece.now
             (error_of Bound self.new self.new.standing) }
     {
+        // Only for the proof: this does nothing at run time.
         let _ = &self.alloc;
         let mut left = piece;
         while !left.is_empty() {

@@ -29,7 +29,7 @@ fn placed_within(error: Error, len: usize) -> Error
 ///
 /// # Errors
 ///
-/// Fails if memory runs out.
+/// - `AllocError`: memory runs out.
 pub fn first_fault(alloc: Global, octets: &[u8]) -> Result<Option<Error>, AllocError>
     ensures fault { IfOk result (λ told. IfSome told (λ e.
         first_certificate octets.now ≡ Err e.kind)) }

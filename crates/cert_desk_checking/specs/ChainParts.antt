@@ -32,8 +32,8 @@ HasTrustedRests =
     → Chain t.bound limit (before ++ c ∷ cs) stream → 0 < length cs → Trusted t limit stream
     → Trusted (among t (as_anchor c ∷ [])) limit (joined t.bound cs)
 
--- Two lists of trust anchors that have the same ones with the first issuer's name give the same
--- verdict, and the verifier is asked as often.
+-- If two lists of trust anchors have the same anchors with the first issuer's name, the verdict is
+-- the same, and the verifier is asked as often.
 abbrev pub IgnoresStrangers : Type 0
 IgnoresStrangers =
     (t : Terms) (others : List PlainAnchor) (limit : ℕ) (stream : List ℕ)

@@ -102,8 +102,8 @@ IsJudgedAlike =
     → (IsVerdict t limit stream verdict → IsVerdict (under t other) limit stream verdict)
     × (Asks t limit stream n → Asks (under t other) limit stream n)
 
--- The lines for an index are those of the questions that the signature of that certificate may ask,
--- in order, and no others.
+-- The lines for an index are those of the questions that may be asked about the signature of that
+-- certificate, in order, and no others.
 abbrev pub QuestionsAreListed : Type 0
 QuestionsAreListed =
     (anchors : List PlainAnchor) (cs : List PlainCertificate) (stream : List ℕ) (place : ℕ)

@@ -56,10 +56,17 @@ use x509_cert_anchors::oid::ObjectIdentifier;
 /// - `Refused` otherwise, with the first certificate that breaks a rule, and the first rule that it
 ///   breaks.
 ///
+/// A chain that isn't trusted isn't an `Err`: compare `verdict` with `Verdict::Trusted`. Host names
+/// and revocation aren't checked.
+///
 /// The verdict depends on the verifier's answers about the bytes of the input. The verifier is
 /// asked only about certificates that keep all rules before that of the signature, and never if the
 /// input has an error. The contract states how often it is asked, and not with which arguments.
-/// The [crate root](crate) has an example.
+/// The root of the crate `cert_desk` has an example.
+///
+/// # Panics
+///
+/// In a program that isn't proved, if the bundle hasn't ended or failed.
 ///
 /// # Errors
 ///

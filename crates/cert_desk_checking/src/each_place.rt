@@ -26,8 +26,8 @@ use x509_cert_anchors::oid::ObjectIdentifier;
 ///
 /// # Errors
 ///
-/// Fails if memory runs out for the result, or for the extensions of a certificate. The verifier
-/// was then asked about a number of certificates, from the first one on.
+/// - `AllocError`: memory runs out for the result, or for the extensions of a certificate. The
+///   verifier was then asked about a number of certificates, from the first one on.
 pub fn judge_each<J: SignatureJudge>(
     alloc: Global,
     bundle: &Bundle,

@@ -152,7 +152,7 @@ fn add_place(
 ///
 /// # Errors
 ///
-/// Fails if memory runs out.
+/// - `AllocError`: memory runs out.
 pub fn chain_lines(alloc: Global, anchors: &[Anchor], bundle: &Bundle) -> Result<String, AllocError>
     ensures { IfOk result (λ text. string_bytes text
         ≡ lines_octets (chain_lines (map anchor_plain anchors.now) bundle.now.certificates

@@ -30,7 +30,7 @@ use x509_cert_anchors::oid::ObjectIdentifier;
 ///
 /// # Errors
 ///
-/// Fails if memory runs out. Decoding the extensions up to this certificate may allocate.
+/// - `AllocError`: memory runs out. Decoding the extensions up to this certificate may allocate.
 pub fn reason_of(
     alloc: Global,
     bundle: &Bundle,

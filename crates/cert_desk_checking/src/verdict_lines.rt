@@ -10,7 +10,7 @@ use std::alloc::{AllocError, Global};
 ///
 /// # Errors
 ///
-/// Fails if memory runs out.
+/// - `AllocError`: memory runs out.
 pub fn verdict_line(alloc: Global, checked: Checked) -> Result<String, AllocError>
     ensures { IfOk result (λ line. string_bytes line ≡ line_of checked.verdict checked.calls) }
 {
@@ -33,7 +33,7 @@ pub fn verdict_line(alloc: Global, checked: Checked) -> Result<String, AllocErro
 ///
 /// # Errors
 ///
-/// Fails if memory runs out.
+/// - `AllocError`: memory runs out.
 pub fn anchors_line(alloc: Global, offset: u64, fault: AnchorFault) -> Result<String, AllocError>
     ensures { IfOk result (λ line. string_bytes line ≡ anchors_line offset fault) }
 {

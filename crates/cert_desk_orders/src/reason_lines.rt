@@ -47,7 +47,7 @@ fn word_line(alloc: Global, number: u64, word: &str, reason: &str) -> Result<Str
 ///
 /// # Errors
 ///
-/// Fails if memory runs out.
+/// - `AllocError`: memory runs out.
 pub fn reason_line(alloc: Global, wrong: &WrongLine<'_>) -> Result<String, AllocError>
     ensures { IfOk result (λ text. string_bytes text ≡ reason_line (wrong_plain wrong.now)) }
 {

@@ -162,7 +162,7 @@ fn order_wrong<'a>(alloc: Global, lines: &[Line<'a>]) -> Result<Option<WrongLine
 ///
 /// # Errors
 ///
-/// Fails if memory runs out.
+/// - `AllocError`: memory runs out.
 pub fn wrong_line<'a>(alloc: Global, octets: &'a [u8]) -> Result<Option<WrongLine<'a>>, AllocError>
     ensures { IfOk result (λ wrong. plain_option wrong_plain wrong ≡ wrong_line octets.now) }
 {
@@ -183,7 +183,7 @@ pub fn wrong_line<'a>(alloc: Global, octets: &'a [u8]) -> Result<Option<WrongLin
 ///
 /// # Errors
 ///
-/// Fails if memory runs out.
+/// - `AllocError`: memory runs out.
 pub fn line_at<'a>(
     alloc: Global,
     octets: &'a [u8],

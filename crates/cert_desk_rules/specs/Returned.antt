@@ -10,7 +10,7 @@ pub record IsExact (IsSo : ExitStatus → Type 0) (returned : ℕ) : Type 0 wher
   pub known : (status : ExitStatus) × (returned ≡ code_of status)
   pub exact : (status : ExitStatus) → (returned ≡ code_of status) ↔ IsSo status
 
--- A call returns each status exactly if `IsSo` holds for it, or an allocation failed.
+-- A call returns each status exactly if `IsSo` holds for it, or it returns `Memory`.
 abbrev pub IsExactWithMemory : (ExitStatus → Type 0) → ℕ → Type 0
 IsExactWithMemory IsSo returned = IsExact IsSo returned ⊎ (returned ≡ code_of statuses.Memory)
 

@@ -10,8 +10,11 @@ pub enum Verdict {
     /// The input isn't a sequence of certificates: there are `place` certificates before the error,
     /// which begins at `offset`.
     StreamFault {
+        /// The number of certificates before the error.
         place: usize,
+        /// The number of bytes before the error.
         offset: u64,
+        /// The kind of the error.
         kind: FaultKind,
     },
     /// The chain has no certificate.
@@ -21,7 +24,9 @@ pub enum Verdict {
     /// The certificate at index `place` is the first that breaks a rule, and `rule` is the first
     /// rule that it breaks.
     Refused {
+        /// The index of the certificate. A trust anchor issued the certificate at index 0.
         place: usize,
+        /// The rule that is broken.
         rule: Rule,
     },
 }

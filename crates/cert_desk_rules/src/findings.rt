@@ -56,8 +56,8 @@ impl Findings {
         }
     }
 
-    /// Returns whether the certificate may be at its position: it is the last one, or that of a CA
-    /// whose key may sign certificates.
+    /// Returns whether the certificate is the last one, or that of a CA whose key may sign
+    /// certificates.
     pub fn may_issue(&self, is_last: bool) -> bool
         ensures { result ≡ (is_last || (self.now.ca && self.now.certifies)) }
     {

@@ -8,29 +8,29 @@ use crate::rule::Rule;
 /// if the certificate keeps the rule.
 #[derive(Clone, Copy, Debug, PartialEq, Eq)]
 pub struct KeptRules {
-    /// Both signature algorithms are the same, so `Rule::AlgorithmsDiffer` isn't broken.
+    /// Both signature algorithms are the same ([`Rule::AlgorithmsDiffer`]).
     pub one_algorithm: bool,
-    /// No two extensions have the same OID, so `Rule::DuplicateExtension` isn't broken.
+    /// No two extensions have the same OID ([`Rule::DuplicateExtension`]).
     pub distinct: bool,
-    /// Each keyUsage, subjectAltName, basicConstraints and extKeyUsage can be decoded, so
-    /// `Rule::MalformedExtension` isn't broken.
+    /// Each keyUsage, subjectAltName, basicConstraints and extKeyUsage can be decoded
+    /// ([`Rule::MalformedExtension`]).
     pub well_formed: bool,
-    /// Each critical extension is one of these four, so `Rule::UnweighedCritical` isn't broken.
+    /// Each critical extension is one of these four ([`Rule::UnweighedCritical`]).
     pub known: bool,
-    /// The issuer's name matches, so `Rule::WrongIssuer` isn't broken.
+    /// The issuer's name matches ([`Rule::WrongIssuer`]).
     pub linked: bool,
-    /// The validation time isn't before the validity period, so `Rule::NotYetValid` isn't broken.
+    /// The validation time isn't before the validity period ([`Rule::NotYetValid`]).
     pub begun: bool,
-    /// The validation time isn't after the validity period, so `Rule::Expired` isn't broken.
+    /// The validation time isn't after the validity period ([`Rule::Expired`]).
     pub lasting: bool,
-    /// The key purpose is allowed, so `Rule::AgainstPurpose` isn't broken.
+    /// The key purpose is allowed ([`Rule::AgainstPurpose`]).
     pub serving: bool,
-    /// The certificate is the last one, or that of a CA whose key may sign certificates, so
-    /// `Rule::NotAuthority` isn't broken.
+    /// The certificate is the last one, or that of a CA whose key may sign certificates
+    /// ([`Rule::NotAuthority`]).
     pub issuing: bool,
-    /// The certification path is within the path lengths, so `Rule::PathTooLong` isn't broken.
+    /// The certification path is within the path lengths ([`Rule::PathTooLong`]).
     pub within_lengths: bool,
-    /// The signature verifier accepts the signature, so `Rule::WrongSignature` isn't broken.
+    /// The signature verifier accepts the signature ([`Rule::WrongSignature`]).
     pub signed: bool,
 }
 

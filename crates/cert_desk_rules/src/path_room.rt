@@ -6,7 +6,7 @@ ghost use Rattle.cert_desk_rules.specs.Paths.{is_within};
 
 /// A limit for the certificates that may follow and that count for path lengths (RFC 5280 4.2.1.9,
 /// 6.1.4 (l), (m)): there may be fewer than `below` of them, or any number if `below` is `None`. If
-/// it is 0, there are too many already.
+/// `below` is 0, there are too many already.
 #[derive(Clone, Copy)]
 pub struct PathRoom {
     below: Option<u16>,

@@ -4,18 +4,18 @@ ghost use Rattle.cert_desk_rules.specs.Judging.{number, rule_name};
 
 use std::fmt;
 
-/// A rule that a certificate of a chain can break, in the order in which rules are checked (RFC
+/// The rules that a certificate of a chain can break, in the order in which they are checked (RFC
 /// 5280 6.1).
 #[derive(Clone, Copy, Debug, PartialEq, Eq)]
 pub enum Rule {
-    /// The signature algorithm in the TBSCertificate differs from the one outside (RFC 5280
-    /// 4.1.1.2).
+    /// `signature` in the TBSCertificate differs from `signatureAlgorithm` (RFC 5280 4.1.1.2).
     AlgorithmsDiffer,
     /// Two extensions have the same OID (RFC 5280 4.2).
     DuplicateExtension,
     /// A keyUsage, subjectAltName, basicConstraints or extKeyUsage can't be decoded.
     MalformedExtension,
-    /// A critical extension is none of these four, so it isn't processed (RFC 5280 4.2).
+    /// A critical extension isn't a keyUsage, subjectAltName, basicConstraints or extKeyUsage, so
+    /// it isn't processed (RFC 5280 4.2).
     UnweighedCritical,
     /// The issuer's name doesn't match: it isn't the subject of the certificate before or, for the
     /// first certificate, the name of any trust anchor (RFC 5280 6.1.3 (a)(4)). Names are compared
@@ -25,7 +25,8 @@ pub enum Rule {
     NotYetValid,
     /// The validation time is after the validity period (RFC 5280 6.1.3 (a)(2)).
     Expired,
-    /// An extKeyUsage doesn't allow the key purpose of the check (RFC 5280 4.2.1.12).
+    /// An extKeyUsage has neither the key purpose of the check nor anyExtendedKeyUsage (RFC 5280
+    /// 4.2.1.12).
     AgainstPurpose,
     /// The certificate isn't the last, and isn't that of a CA whose key may sign certificates (RFC
     /// 5280 6.1.4 (k), (n)).

@@ -19,6 +19,10 @@ pub trait SignatureJudge {
 
     /// Returns whether the bits are a signature over the bytes, by this algorithm and under this
     /// key.
+    ///
+    /// `algorithm` is the `signatureAlgorithm` of the certificate. Its parameters aren't decoded. A
+    /// verifier returns `false` for an algorithm, parameters or a key that it doesn't know.
+    /// docs/GUIDE.md explains how to write a verifier.
     fn accepts(
         &mut self,
         key: &SubjectPublicKeyInfo,

@@ -44,7 +44,7 @@ type NameLent<'a> = OneOf8<
 ///
 /// # Errors
 ///
-/// Fails if memory runs out.
+/// - `AllocError`: memory runs out.
 pub fn findings_of(
     alloc: Global,
     extensions: &[Extension],

@@ -6,7 +6,7 @@
 //!
 //! # Examples
 //!
-//! As in `tools/guide/facades.rt.txt`:
+//! From `tools/guide/facades.rt.txt`:
 //!
 //! ```rust
 //! /// Returns true if a dotted text is the identifier of an extension of RFC 5280 (`id-ce`).

@@ -6,7 +6,7 @@
 //!
 //! # Examples
 //!
-//! As in `tools/guide/facades.rt.txt`:
+//! From `tools/guide/facades.rt.txt`:
 //!
 //! ```rust
 //! /// Decodes an INTEGER of 32 bits, and returns the encoding of the next number, or of 0.

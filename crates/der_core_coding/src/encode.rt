@@ -116,7 +116,7 @@ pub trait ToDer: Encode {
     ///
     /// # Examples
     ///
-    /// As in `crates/example_build_certificates/src/main.rt`:
+    /// From `crates/example_build_certificates/src/main.rt`:
     ///
     /// ```rust
     /// /// Returns the encoding of a value as a line in base 16.

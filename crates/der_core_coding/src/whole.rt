@@ -102,7 +102,7 @@ pub trait FromDer<'a>: Decode<'a, SliceReader<'a>> {
     ///
     /// # Examples
     ///
-    /// As in `crates/example_own_types/src/main.rt`:
+    /// From `crates/example_own_types/src/main.rt`:
     ///
     /// ```rust
     /// /// Decodes a ticket. Returns its text and its encoding.

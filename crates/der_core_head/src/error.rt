@@ -25,11 +25,11 @@ pub enum ErrorKind {
     Incomplete,
     /// A length is indefinite, which DER doesn't allow.
     IndefiniteLength,
-    /// The type can't have this length, or the length isn't in its shortest form.
+    /// The type with this tag can't have this length, or the length isn't in its shortest form.
     Length { tag: Tag },
     /// There are more levels of nesting than may be open.
     NestingDepth,
-    /// A value isn't encoded in the only form that DER allows.
+    /// A value with this tag isn't encoded in the only form that DER allows.
     Noncanonical { tag: Tag },
     /// The bytes aren't an object identifier.
     OidMalformed,
@@ -40,7 +40,8 @@ pub enum ErrorKind {
     OutOfMemory,
     /// A length exceeds 2^32 - 1, or a difference of lengths is negative.
     Overflow,
-    /// A length has more than four bytes, or there isn't room for all bytes or members.
+    /// A length has more than four bytes, or the buffer or list is too small for all bytes or
+    /// members.
     Overlength,
     /// The reader doesn't support the operation.
     Reader,
@@ -60,7 +61,7 @@ pub enum ErrorKind {
     TrailingData,
     /// A text isn't UTF-8.
     Utf8,
-    /// The type doesn't have this value.
+    /// The type with this tag doesn't have this value.
     Value { tag: Tag },
 }
 
@@ -120,7 +121,8 @@ impl Error {
     /// Returns the error with a position in the input, unless it has one already. `OutOfMemory`
     /// gets no position.
     ///
-    /// This function isn't inlined, so that a decoded value isn't moved in the parts of an error.
+    /// This function isn't inlined, because its callers would then copy a decoded value piece by
+    /// piece, even if there is no error.
     #[inline(never)]
     pub fn found_at(self, place: Length) -> Error
         ensures kind { result.kind ≡ self.kind }

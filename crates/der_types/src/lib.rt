@@ -8,7 +8,7 @@
 //!
 //! # Examples
 //!
-//! As in `tools/guide/facades.rt.txt`:
+//! From `tools/guide/facades.rt.txt`:
 //!
 //! ```rust
 //! /// Decodes a BIT STRING and returns its number of bits.

@@ -120,7 +120,7 @@ impl<T: Shaped> SetOfVec<T> {
         SetOfRef::of_values(self.members.as_slice())
     }
 
-    /// Returns the empty set.
+    /// Returns the empty set, as [`SetOfVec::new`] does.
     pub fn default(alloc: Global) -> SetOfVec<T>
         ensures { result ≡ [] }
     {
@@ -203,12 +203,13 @@ impl<T: DerOrd + Member + Drop> SetOfVec<T> {
     /// Returns the set of these members. Equal members keep their order.
     ///
     /// It makes O(n log n) comparisons. If there is memory for a sort, it also makes O(n log n)
-    /// moves.
+    /// moves, and otherwise O(n²). (This is measured, and not proved.)
     ///
     /// # Errors
     ///
     /// - `Overflow`: a member has no encoding, for example because its length exceeds 2^32 - 1.
-    ///   `OutOfMemory` is never returned.
+    ///
+    /// It never returns `OutOfMemory`.
     pub fn from_vec(members: Vec<T>) -> Result<SetOfVec<T>, Error>
         ensures ok { IfOk result (IsPermutation members.items) }
         ensures equals { IfOk result (λ set. AllValid T.shape T.written members.items
@@ -223,8 +224,7 @@ impl<T: DerOrd + Member + Drop> SetOfVec<T> {
 
     /// Inserts each of the items in order, after the members that equal it.
     ///
-    /// It makes O(n log n) comparisons. If there is memory for a sort, it also makes O(n log n)
-    /// moves.
+    /// It makes as many comparisons and moves as [`SetOfVec::from_vec`].
     ///
     /// After an error, the items before the rejected one have been inserted, and no others.
     ///
@@ -257,11 +257,8 @@ impl<T: DerOrd + Member + Drop> SetOfVec<T> {
         self.gain(came)
     }
 
-    /// Inserts each of these items in order, after the members that equal it.
-    ///
-    /// # Errors
-    ///
-    /// The errors of `extend`.
+    // Inserts each of these items in order, after the members that equal it. Its errors are those
+    // of `extend`.
     fn gain(&mut self, items: Vec<T>) -> Result<(), Error>
         ensures ok { OnOk result (Gains T.shape T.written self.old items.items self.new) }
         ensures refused { IfErr result (StopsIn T.shape T.written self.old items.items self.new) }

@@ -19,7 +19,7 @@ use std::alloc::{AllocError, Global};
 ///
 /// # Errors
 ///
-/// Fails if memory runs out.
+/// - `AllocError`: memory runs out.
 pub(crate) fn first_certificate(
     alloc: Global,
     octets: &[u8],
@@ -50,7 +50,7 @@ pub(crate) fn first_certificate(
 ///
 /// # Errors
 ///
-/// Fails if memory runs out.
+/// - `AllocError`: memory runs out.
 pub(crate) fn split(
     alloc: Global,
     stream: &[u8],

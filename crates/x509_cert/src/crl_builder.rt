@@ -138,7 +138,7 @@ impl<P: Profile> CrlBuilder<P> {
     ///
     /// # Examples
     ///
-    /// As in `crates/example_build_certificates/src/main.rt`:
+    /// From `crates/example_build_certificates/src/main.rt`:
     ///
     /// ```rust
     /// let mut builder = CrlBuilder::new_with_this_update(alloc, authority, number, this_update)?;

@@ -6,11 +6,11 @@
 //! modules have the paths of the Rust crate `x509-cert`, and the types that programs use most are
 //! also at its root. It adds the builders of CRLs and CSRs. A program that only decodes can use
 //! `x509_cert_reading`, which lacks trust anchors and builders. This crate doesn't validate
-//! certificate chains; `cert_desk_checking` does.
+//! certificate chains; `cert_desk` does.
 //!
 //! # Examples
 //!
-//! As in `crates/example_subject_of_certificate/src/main.rt`:
+//! From `crates/example_subject_of_certificate/src/main.rt`:
 //!
 //! ```rust
 //! use der_core::Result;

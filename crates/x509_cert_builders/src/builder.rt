@@ -6,8 +6,8 @@ use rand_core::CryptoRng;
 use std::alloc::Global;
 use x509_cert_certificates::types::BitString;
 
-/// A builder of a signed value. The signer receives the encoding of the signed part, and the
-/// encoding of the result contains these bytes.
+/// A builder of a signed value. The signature is one that the signer may return for the encoding of
+/// the signed part, which the encoding of the result contains.
 pub trait Builder: Sized + Drop {
     ghost use Rattle.std.specs.Prelude.{◌≡◌, ◌⊎◌, ℕ, List, Option, Some, None, IfOk, IfErr, OnOk};
     ghost use Rattle.x509_cert_certificates.specs.Der.BitStrings.{Bits};
@@ -28,7 +28,7 @@ pub trait Builder: Sized + Drop {
     /// What is true of a part that `finalize` made, for example that it has an encoding.
     ghost is_valid: { Self → PublicKey → Algorithm → Type 0 };
 
-    /// The errors of `finalize`, except that memory runs out.
+    /// The errors that `finalize` may return, apart from `OutOfMemory`.
     ghost faults: { Self → PublicKey → Algorithm → Error → Type 0 };
 
     /// The part of the last successful `finalize`, if there was one.
@@ -53,9 +53,9 @@ pub trait Builder: Sized + Drop {
     /// The signature of the result.
     ghost bits: { Self.Output → Bits };
 
-    /// Returns the bytes to be signed. The builder keeps the part that they encode for `assemble`.
-    /// `is_same_otherwise` states what else may change. The builders of this crate change nothing
-    /// else. If the call fails, the builder is unchanged.
+    /// Returns the bytes to be signed. If the call fails, the builder is unchanged. Otherwise, the
+    /// builder keeps the part that the bytes encode, for `assemble`. The builders of this crate
+    /// change nothing else; for another builder, `is_same_otherwise` states what else may change.
     ///
     /// A second call for the same signer returns the same bytes. If something is added between the
     /// calls, the second call returns bytes that contain it, too.

@@ -72,14 +72,19 @@ impl<P: BuilderProfile + Drop> CertificateBuilder<P> {
     ///
     /// # Examples
     ///
-    /// As in `crates/example_build_certificates/src/answering.rt`:
+    /// From `crates/example_build_certificates/src/main.rt`:
     ///
     /// ```rust
-    /// let mut builder = CertificateBuilder::new(alloc, profile, serial, validity()?, key)?;
-    /// // ..
-    /// builder.add_extension(alloc, names)?;
-    /// // ..
-    /// let certificate = builder.build(alloc, signer)?;
+    /// pub(crate) fn builder_for<P: BuilderProfile + Drop>(
+    ///     alloc: Global,
+    ///     profile: P,
+    ///     number: u8,
+    ///     key: SubjectPublicKeyInfo,
+    /// ) -> Result<CertificateBuilder<P>, Error> {
+    ///     let serial = SerialNumber::new(alloc, &[number])?;
+    ///     let builder = CertificateBuilder::new(alloc, profile, serial, validity()?, key)?;
+    ///     Ok(builder)
+    /// }
     /// ```
     ///
     /// # Errors

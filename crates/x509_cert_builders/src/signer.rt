@@ -1,3 +1,5 @@
+//! The trait of signing keys.
+
 use crate::sign_error::SignError;
 use rand_core::CryptoRng;
 use std::alloc::Global;
@@ -6,9 +8,9 @@ use x509_cert_certificates::types::BitString;
 
 /// A signing key, wherever it is stored.
 ///
-/// The key and the algorithm are values of the signer. The signatures that it may return for some
-/// bytes are given by a relation, which is the same with and without a random number generator. If
-/// a scheme has several signatures for the same bytes, the relation contains all of them.
+/// The key and the algorithm are values of the signer. The ghost member `signs` states which
+/// signatures the signer may return for which bytes, with and without a random number generator. If
+/// a scheme has several signatures for the same bytes, it contains all of them.
 pub trait Signer {
     ghost use Rattle.std.specs.Prelude.{◌≡◌, ℕ, List, IfOk, IfErr};
     ghost use Rattle.x509_cert_certificates.specs.Der.BitStrings.{Bits};

@@ -78,7 +78,7 @@ impl<P: Profile> CertificateInner<P> {
     ///
     /// # Examples
     ///
-    /// As in `crates/example_subject_of_certificate/src/main.rt`:
+    /// From `crates/example_subject_of_certificate/src/main.rt`:
     ///
     /// ```rust
     /// let certificate = CertificateInner::<Raw>::from_der(alloc, octets)?;
@@ -87,8 +87,8 @@ impl<P: Profile> CertificateInner<P> {
     ///
     /// # Errors
     ///
-    /// - The first error that decoding meets (docs/ENCODING.md).
     /// - `OutOfMemory`: memory runs out.
+    /// - Any other kind: the first error that decoding meets (docs/ENCODING.md).
     pub fn from_der(alloc: Global, bytes: &[u8]) -> Result<CertificateInner<P>, Error>
         // Accepted bytes are the encoding of the certificate.
         ensures spelled { IfOk result

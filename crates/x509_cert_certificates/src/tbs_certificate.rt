@@ -319,7 +319,7 @@ impl<P> TbsCertificateInner<P> {
     ///
     /// # Examples
     ///
-    /// As in `crates/example_extensions_of_certificate/src/main.rt`:
+    /// From `crates/example_extensions_of_certificate/src/main.rt`:
     ///
     /// ```rust
     /// let usage = certificate.get_extension::<KeyUsage>(alloc)?;

@@ -55,7 +55,7 @@ impl Name {
     ///
     /// # Examples
     ///
-    /// As in `crates/example_build_certificates/src/main.rt`:
+    /// From `crates/example_build_certificates/src/main.rt`:
     ///
     /// ```rust
     /// let subject = Name::from_str(alloc, "CN=Example Root,O=Example,C=US")?;
