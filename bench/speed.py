@@ -323,6 +323,9 @@ def page(bench):
             yield f"| {' | '.join(row)} |"
 
     others, earlier = ("\n".join(table(rows)) for rows in (OTHERS, EARLIER))
+    tasks = "one task" if len(missed) == 1 else f"{len(missed)} tasks"
+    targets = f"{tasks} missed the target (**no** in the tables): {', '.join(missed)}"
+    targets = targets if missed else "all tasks met them"
     whole, alone, chain, shown = (f"{100 - 100 * ratios[row[1]]:.0f} %" for row in OTHERS)
     return f"""# Speed
 
@@ -336,8 +339,11 @@ These figures are those of [commit {commit}](#how-this-was-measured), and not of
   {alone} fewer, but then the two do different work.
 - **Validating** a chain of four certificates took {chain} fewer instructions than with mbedTLS.
   Neither side verifies signatures or computes digests.
-- **Printing** a root took {shown} fewer instructions than with OpenSSL.
-- **Missed targets** (`**no**` in the tables): {', '.join(missed) or 'none'}.
+- **Printing** a root took {shown} fewer instructions than with OpenSSL. Both print the same
+  [parts](README.md#method).
+- **Targets**: {targets}.
+
+Wurstdrape wasn't compared with Rust crates.
 
 A figure of a root is the mean of the roots in Debian's `ca-certificates`. A ratio is the
 instructions of Wurstdrape, divided by those on the right: below 1, Wurstdrape takes fewer. An empty

@@ -7,13 +7,21 @@
     tools/definitions.py CALL...    lists the definitions on which the contracts of these calls rest
 
 A CALL is a function (`check`, or `cert_desk_checking::check` with its crate), a method
-(`Issued::audit`), or a type with its invariant (`Issued`). The definitions of the kit (`std/specs`)
-aren't counted. A variable of a `λ` with the name of a definition counts as the definition, so the
-list can be too long by such names, and is never too short.
+(`Issued::audit`), or a type with its invariant (`Issued`). Each line of the list names a definition
+and its place, after one of these words:
+
+    cited    a clause of the call names the definition
+    below    a definition of the list uses it
+    ghost    a ghost member through which the contract sees an argument
+
+The definitions of the kit (`std/specs`) aren't counted. A variable of a `λ` with the name of a
+definition counts as the definition, so the list can be too long by such names, and is never too
+short.
 """
 
 import itertools
 import re
+import signal
 import sys
 import textwrap
 
@@ -97,6 +105,19 @@ def file_row(file):
     return f"| {link} | {len(file.lines)} | {count} | {text} |" if count else None
 
 
+def sizes():
+    """Returns the sentence about the number of lines, in thousands."""
+    counts = []
+    for files in ("src/**/*.rt", "specs/**/*.antt", "proofs/**/*.antt"):
+        paths = [it for crate in sources.dependencies()
+                 for it in (sources.TOP / "crates" / crate).glob(files)]
+        counts.append(round(sum(len(it.read_text().splitlines()) for it in paths), -3))
+    code, definitions, lemmas = (f"{count:,}" for count in counts)
+    return filled(f"The crates have some {code} lines of code with its contracts (`src/`), "
+                  f"{definitions} of definitions (`specs/`) and {lemmas} of proofs (`proofs/`), "
+                  "with comments and blank lines.")
+
+
 def section(book, crate, own):
     """Returns the section of a crate, given its files of definitions."""
     rows = {file: row for file in own if (row := file_row(file))}
@@ -120,10 +141,10 @@ def proofs(book):
     counted = sum(proof.key in direct for proof in found)
     serving = sum(proof.key in behind_them for proof in found) - counted
     told = (
-        f"{len(found)} further proofs are in `specs/`, which no definition names, so you don't "
-        f"have to read them. Ghost members name {counted} of them, for example that an order is "
-        "total, because a ghost member can import only from `specs/` of its own crate; the trait "
-        f"states what such a proof shows. The other {serving} are used by these"
+        f"`specs/` also has {len(found)} proofs that no definition names; you don't have to read "
+        f"them. Ghost members name {counted} of them, for example that an order is total, because "
+        "a ghost member can import only from `specs/` of its own crate. The trait states what such "
+        f"a proof shows. These {counted} proofs use the other {serving}"
     )
     left = [proof for proof in found if proof.key not in behind_them]
     yield filled(told + (". These belong into `proofs/`:" if left else "."))
@@ -142,6 +163,7 @@ def page(book):
     crates = {crate: own for crate, own in crates.items() if own}
     links = filled(f"- By crate: {', '.join(f'[`{it}`](#{it})' for it in crates)}", "  ")
     text = PAGE.read_text().partition("\n\n## `")[0]
+    text = re.sub(r"^The crates have some .*?(?=\n\n)", sizes(), text, flags=re.M | re.S)
     text = re.sub(r"^- By crate: .*?$(?=\n- )", links, text, flags=re.M | re.S)
     text = re.sub(r"^\| (.+) \| (`.+`) \|.*$", lambda row: claim(book, *row.groups()), text,
                   flags=re.M)
@@ -189,6 +211,8 @@ def main():
     if words.check:
         return check(Book())
     if words.calls:
+        # A reader that ends early, such as `head`, ends this program silently.
+        signal.signal(signal.SIGPIPE, signal.SIG_DFL)
         return told(Book(), words.calls)
     PAGE.write_text(page(Book()))
     return 0

@@ -27,6 +27,7 @@ import shutil
 import subprocess
 import sys
 import tempfile
+import textwrap
 
 import release
 import sources
@@ -35,6 +36,8 @@ from sources import TOP
 PAGE = TOP / "tests" / "MUTANTS.md"
 TABLES = "\n## What was rejected, and when\n"
 COLUMNS = "| Mutant | What it does | What rejects it | Date | Commit |\n|---|---|---|---|---|"
+# The crates with the code and the definitions of the main claim.
+MAIN_CLAIM = "cert_desk_checking", "cert_desk_rules"
 # The layers of crates, by how the names of their crates begin.
 LAYERS = {
     "Object identifiers": "const_oid", "The core of DER": "der_core",
@@ -120,7 +123,7 @@ def read_all():
 
 
 def named(kind, parameters):
-    """Returns the checker's name of a type: `Option`, `RefSliceU8`, `Any`."""
+    """Returns the prover's name of a type: `Option`, `RefSliceU8`, `Any`."""
     kind = re.sub(r"'\w+,? ?|\w+::", "", kind)
     if kind.startswith("("):
         return f"Tuple{kind.count(',') + 1}" if kind != "()" else "Unit"
@@ -136,7 +139,7 @@ def named(kind, parameters):
 
 
 def owner(header):
-    """Returns the checker's name of an `impl` or a trait."""
+    """Returns the prover's name of an `impl` or a trait."""
     header = re.sub(r"\bwhere\b.*", "", header).strip()
     trait = re.match(r"(?:pub(?:\(\w+\))? )?trait (\w+)", header)
     if trait:
@@ -157,7 +160,7 @@ def module_of(file):
 
 
 def module_of_type(crate, kind):
-    """Returns the path of the module that declares a type, to which the checker counts its inherent
+    """Returns the path of the module that declares a type, to which the prover counts its inherent
     impls, or None."""
     declared = re.compile(rf"^(?:pub(?:\(\w+\))? )?(?:struct|enum) {re.escape(kind)}\b", re.M)
     paths = (it for it in sorted((crate / "src").rglob("*.rt")) if declared.search(it.read_text()))
@@ -165,7 +168,7 @@ def module_of_type(crate, kind):
 
 
 def function_at(crate, file, number):
-    """Returns the checker's name of the function that a line belongs to, or None."""
+    """Returns the prover's name of the function that a line belongs to, or None."""
 
     def part_at(parts):
         return next((it for it in parts if number < it.number - 1 + len(it.lines)), None)
@@ -250,7 +253,7 @@ class Trial:
         told = (ran.stdout + ran.stderr).splitlines()
         if any(line.startswith("fn ") for line in told):
             return goals_left(self.copy, told), None
-        return {}, next((line for line in told if "error" in line), "the checker printed nothing")
+        return {}, next((line for line in told if "error" in line), "the prover printed nothing")
 
     def together(self, changed):
         """Returns what rejects each of some mutants, given the functions that each changes."""
@@ -383,7 +386,7 @@ def page():
     every, rows = read_all(), []
     lines = ["", "The third column has the function and the clause at which the prover stopped. If "
              "it has no clause, a",
-             "law rejected the mutant, or the checker didn't name the clause."]
+             "law rejected the mutant, or the prover didn't name the clause."]
     waiting = [it for it in every if it.rejected == UNTRIED]
     recorded = [it for it in every if it.rejected and it not in waiting]
     for layer, begin in LAYERS.items():
@@ -392,14 +395,20 @@ def page():
         rows += [f"| {layer} | {len(here):,} | {len(told)} |"] * bool(here)
         lines += ["", f"### {layer}", "", *table(told)] * bool(told)
     vectors = sum(bool(it.vectors) for it in recorded)
-    counts = "\n".join(["| Layer | Mutants | With a recorded result |", "|---|---|---|", *rows,
-        f"| all | {len(every):,} | {len(recorded)} |", "",
+    main = [it for it in every if it.crate in MAIN_CLAIM]
+    summary = (
         f"Of these {len(recorded)}, the prover rejected {len(recorded) - vectors}, and only test "
-        f"vectors detect the other {vectors}.\n\n"])
-    text = re.sub(r"^\| Layer .*?(?=^For the others)", counts, PAGE.read_text(), 1, re.M | re.S)
-    lines += ["", "### To be tried", "", f"These {len(waiting)} mutants were never tried, or "
-              "they or their code have changed since:", "", *(f"- `{it.title}`" for it in waiting)
-              ] * bool(waiting)
+        f"vectors detect the other {vectors}. For all others, the repository records no result, so "
+        f"they are no evidence. [{len(waiting)}](#to-be-tried) of them haven't been tried in their "
+        f"present form. Of the {len(main)} mutants of the [main "
+        "claim](../docs/TRUST.md#the-main-claim), which are those of "
+        f"{' and '.join(f'`{it}`' for it in MAIN_CLAIM)}, {len({*main} & {*recorded})} have a "
+        "recorded result.")
+    counts = "\n".join(["| Layer | Mutants | With a recorded result |", "|---|---|---|", *rows,
+        f"| all | {len(every):,} | {len(recorded)} |", "", textwrap.fill(summary, 100) + "\n\n"])
+    text = re.sub(r"^\| Layer .*?(?=^A result is)", counts, PAGE.read_text(), 1, re.M | re.S)
+    lines += ["", "### To be tried", "", f"{len(waiting)} mutants were never tried, or they or "
+              "their code have changed since:", "", *(f"- `{it.title}`" for it in waiting)]
     return "\n".join([text.partition(TABLES)[0] + TABLES, *lines[1:]]) + "\n"
 
 

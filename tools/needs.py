@@ -37,6 +37,7 @@ NEEDS = {
                                        "/usr/share/ca-certificates/mozilla",
     "tests/differential/files.py": "/usr/share/ca-certificates/mozilla",
     "tests/differential/held.py": "openssl cryptography",
+    "tests/differential/messages.py": "openssl cryptography",
     "tests/differential/mutated.py": "/usr/share/ca-certificates/mozilla",
     "tests/rows/hostile.py": "/usr/bin/time",
     "tests/rows/memory.py": "gcc",

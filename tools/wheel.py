@@ -21,7 +21,7 @@ INFO = f"wurstdrape-{version()}.dist-info"
 METADATA = f"""Metadata-Version: 2.1
 Name: wurstdrape
 Version: {version()}
-Summary: Parses and validates X.509 certificates, CRLs and CSRs; formally verified
+Summary: Decodes X.509 certificates, CRLs and CSRs; validates and issues chains; formally verified
 License: MIT OR Apache-2.0
 Requires-Python: >=3.9
 Provides-Extra: verifier

@@ -28,6 +28,7 @@ _cert_tool_options() {
 
 _cert_tool() {
     local word=${COMP_WORDS[COMP_CWORD]} before=${COMP_WORDS[COMP_CWORD - 1]} words= it
+    local kinds="certificate list request ocsp-request ocsp-response message key timestamp"
     [ "$before" != = ] || before=${COMP_WORDS[COMP_CWORD - 2]}
     # The command, after which explain and describe have a kind.
     local command=
@@ -51,8 +52,8 @@ _cert_tool() {
             case $command/$word in
                 */-*) words=$(_cert_tool_options "$command") ;;
                 /*) words="questions verify explain describe split reverse serve" ;;
-                explain/*) words="certificate list request anchors stream chain" ;;
-                describe/*) words="certificate list request stream" ;;
+                explain/*) words="$kinds anchors stream chain" ;;
+                describe/*) words="$kinds stream" ;;
             esac
             ;;
     esac

@@ -13,7 +13,7 @@ from the end-entity certificate to an anchor, by names; a chain is trusted if on
 examples/answer.py verifies the signatures. If a suite expects another result, the difference gets a
 class: for a trusted chain, what the suite tests and cert_tool doesn't; for a rejected chain, the
 rule that it breaks. Each path is also tried with --strict; if no path is trusted then, the class is
-the limit that the chain breaks. The status is 1 if a chain is trusted although a rule of cert_tool
+the stricter check that fails. The status is 1 if a chain is trusted although a rule of cert_tool
 should reject it, or if a difference has no class.
 """
 
@@ -537,7 +537,7 @@ def tables(all_judged, versions):
         found = [it for it in all_judged if it.limit == limit]
         good = [it for it in found if it.test.good]
         rows += [[limit, len(found) - len(good), len(good), which(good)]] if found else []
-    yield table(["Limit", "Suite rejects, too", "Suite trusts", "Which of these"], rows)
+    yield table(["Check", "Suite rejects, too", "Suite trusts", "Which of these"], rows)
 
 
 def main():
