@@ -31,7 +31,7 @@ class RustType:
     default: str | None = None
     # The constraint of a set that must have a member, which only some fields check.
     unchecked_size: str | None = None
-    # The type of the members of such a set, if it is known, and what it needs to import.
+    # For a SET OF: the type of its members, if it is known, and the imports of that type.
     member: tuple[str, frozenset[str]] | None = None
 
     @property

@@ -232,7 +232,7 @@ cms_version = integer_among (0 ∷ 1 ∷ 2 ∷ 3 ∷ 4 ∷ 5 ∷ [])
 -- SignerInfo ::= SEQUENCE { version CMSVersion, sid SignerIdentifier, digestAlgorithm
 -- AlgorithmIdentifier, signedAttrs [0] IMPLICIT SET OF Attribute OPTIONAL, signatureAlgorithm
 -- AlgorithmIdentifier, signature OCTET STRING, unsignedAttrs [1] IMPLICIT SET OF Attribute OPTIONAL
--- } (RFC 5652 5.3).
+-- } (RFC 5652 5.3). The decoder also rejects an empty set of attributes, which this grammar allows.
 abbrev pub signer_info_fields : ℕ → Body
 signer_info_fields bound =
     field cms_version
