@@ -23,6 +23,7 @@ TOP = HERE.parents[1]
 sys.path[:0] = [str(TOP / "tests"), str(TOP / "tools")]
 
 from asn1_tool.command import main as write_crate
+from asn1_tool.names import snake
 from der import NULL, bits, date, explicit, identifier, integer, sequence, tlv
 
 from positions import MAIN
@@ -158,6 +159,14 @@ VALUES = {
 }
 
 
+# Each type has a function of its own, as docs/CONTRIBUTING.md advises ("What a check costs").
+AGAIN = """
+fn {call}(alloc: Global, octets: &[u8]) -> Result<Vec<u8>> {{
+    {type}::from_der(alloc, octets)?.to_der(alloc)
+}}
+"""
+
+
 def write(folder, names):
     """Makes a repository with the crates and the program, and returns the program's folder."""
     crates, here = folder / "crates", str(folder / "crates")
@@ -171,9 +180,11 @@ def write(folder, names):
     source = crates / "forms_program/src"
     source.mkdir(parents=True)
     labels = [*(f'"{it}"' for it in names[:-1]), "_"]
-    arms = "".join(f"        {label} => {it}::from_der(alloc, octets)?.to_der(alloc),\n"
-                   for label, it in zip(labels, names))
-    (source / "main.rt").write_text(MAIN.replace("ARMS", arms))
+    calls = [snake(it.replace("::", "-")) for it in names]
+    arms = "".join(f"        {label} => {call}(alloc, octets),\n"
+                   for label, call in zip(labels, calls))
+    functions = "".join(AGAIN.format(call=call, type=it) for call, it in zip(calls, names))
+    (source / "main.rt").write_text(MAIN.replace("ARMS", arms) + functions)
     (folder / "HANDLES").write_text((TOP / "HANDLES").read_text())
     with (folder / "crates.txt").open("a") as lines:
         lines.writelines(f"{name}: {line}\n" for name, line in CRATES.items())

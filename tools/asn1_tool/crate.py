@@ -22,7 +22,7 @@ class Crate:
     def __init__(self, types, name, only=()):
         self.types, self.name, self.report = types, name, types.report
         self.only, self.defaults, self.wrappers = only, {}, {}
-        self.files, self.exports = {}, {}
+        self.files, self.exports, self.lists = {}, {}, []
 
     def write(self):
         """Puts each file into `files`, and reports what can't be written."""
@@ -175,6 +175,8 @@ class Crate:
                 self.types.check_size(rust, definition.line)
             uses |= rust.uses
             declared = f"pub type {names.camel(name)} = {rust.text};"
+            if "<" in rust.text and rust.text != library.OBJECT_IDENTIFIER.text:
+                self.lists.append(names.camel(name))
             rows.append(f"{layout.comment(definition)}\n{declared}\n")
         if rows:
             uses = layout.imports(it for it in uses if not it.startswith("crate::aliases::"))
@@ -185,9 +187,11 @@ class Crate:
     # Laws.
 
     def laws(self):
-        """Writes a law with a clause for each type: 64 levels of nesting suffice to decode it."""
+        """Writes a law with a clause for each type: 64 levels of nesting suffice to decode it. The
+        library has laws about its own types, so another name of one of these needs no clause."""
         found = {module: types[0] for module, types in self.exports.items()
                  if types and module != "aliases"}
+        found.update((names.module(it), it) for it in self.lists)
         if found and not self.report.errors:
             clauses = [law_clause(module, found[module]) for module in sorted(found)]
             self.files["src/laws.rt"] = LAWS.format(clauses="\n".join(clauses))

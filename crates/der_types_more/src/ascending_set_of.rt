@@ -15,7 +15,7 @@ use std::alloc::Global;
 use std::cmp::Ordering;
 
 /// SET OF in which equal members are allowed. It is encoded only if the encodings of its members
-/// are in ascending order.
+/// are in ascending order. Decoding members in another order returns the error `SetOrdering`.
 #[derive(Clone, Debug, Drop, PartialEq, Eq)]
 pub struct AscendingSetOf<T> {
     /// The members. Encoding fails if their encodings aren't in ascending order.

@@ -1,10 +1,11 @@
-//! More types of ASN.1 modules: owned VisibleString, NumericString and GeneralString, an owned
-//! SEQUENCE whose content isn't decoded, SET OF with equal members, SEQUENCE OF and OPTIONAL SET OF
-//! with at least one member, and BOOLEAN DEFAULT TRUE.
+//! More types of ASN.1 modules: VisibleString and NumericString, owned and borrowed, an owned
+//! GeneralString, an owned SEQUENCE whose content isn't decoded, SET OF that may have equal
+//! members, SEQUENCE OF and OPTIONAL SET OF with at least one member, and BOOLEAN DEFAULT TRUE.
 #![tactic(auto)]
 
 mod ascending_set_of;
 mod general_string;
+pub mod laws;
 mod numeric_string;
 mod one_or_more;
 mod optional_set;

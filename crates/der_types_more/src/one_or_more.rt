@@ -24,7 +24,7 @@ pub struct OneOrMore<T> {
 }
 
 impl<T> OneOrMore<T> {
-    /// Returns the member at an index, or `None` if there are fewer members.
+    /// Returns the member at an index, or `None` if there is no member at this index.
     pub fn get(&self, index: usize) -> Option<&T>
         ensures { option_copied result
             ≡ slice_get (self.now.first ∷ self.now.others.items) index }

@@ -17,11 +17,14 @@ use der_core::{
 use std::alloc::Global;
 use std::cmp::Ordering;
 
-/// A SET OF with the implicit tag `N` in an OPTIONAL field, which must have a member if it is
-/// present: `SIZE (1..MAX)`. In a row of fields, its type is `WithDefault<OptionalSet<T, N>>`.
+/// A SET OF with the implicit tag `N`, whose members are in ascending order and differ (X.690 8.12,
+/// 11.6). A field of type `WithDefault<OptionalSet<T, N>>` is optional, and has a member if it is
+/// present: `SIZE (1..MAX)`. Decoding the field returns `None` if it is absent, and the error
+/// `Noncanonical` for a set without members, which is encoded as an absent field. `OptionalSet`
+/// alone accepts a set without members.
 ///
-/// Decoding returns `None` for an absent field, and the error `Noncanonical` for a set without
-/// members. A set without members is encoded as an absent field.
+/// In contracts, `None` and a set without members are one value, the empty list. So no contract
+/// states that an absent field is `None`, and not `Some` of a set without members.
 #[derive(Debug, Drop)]
 pub struct OptionalSet<T, const N: u32>(pub Option<StrictSetOf<T>>);
 
@@ -80,7 +83,7 @@ impl<T: Element + AsRead, const N: u32> DefaultValue for OptionalSet<T, N> {
 #[derive(Drop)]
 pub struct SetMembers<'a, T, const N: u32>(pub &'a [T]);
 
-/// Returns the members of a set, or none for `None`.
+/// Returns members with the same abstract values: those of the set, or none for `None`.
 pub fn members_of<'a, T: Shaped, const N: u32>(
     set: &'a Option<StrictSetOf<T>>,
 ) -> SetMembers<'a, T, N>

@@ -14,8 +14,9 @@ use std::alloc::{AllocError, Global};
 use std::convert::AsSlice;
 use std::marker::Model;
 
-/// An owned SEQUENCE (X.690 8.9) whose content of fewer than 2^32 bytes isn't decoded. Use it for
-/// an alternative of a choice, or a field, that your program doesn't need.
+/// An owned SEQUENCE (X.690 8.9) whose content of fewer than 2^32 bytes isn't decoded, so the
+/// content needn't be DER. Use it for an alternative of a choice, or a field, that your program
+/// doesn't need.
 ///
 /// In contracts, its value is the bytes of the content.
 #[derive(Debug, Drop, PartialEq, Eq, PartialOrd, Ord, Hash)]

@@ -12,8 +12,11 @@ use der_core::Shaped;
 pub fn types_are_within_levels()
     ensures certificate_choices { are_enough
         ⟦<CertificateChoices as Shaped>⟧.shape levels_max ≡ true }
+    ensures certificate_set { are_enough ⟦<CertificateSet as Shaped>⟧.shape levels_max ≡ true }
     ensures cms_version { are_enough ⟦<CmsVersion as Shaped>⟧.shape levels_max ≡ true }
     ensures content_info { are_enough ⟦<ContentInfo as Shaped>⟧.shape levels_max ≡ true }
+    ensures digest_algorithm_identifiers { are_enough
+        ⟦<DigestAlgorithmIdentifiers as Shaped>⟧.shape levels_max ≡ true }
     ensures digested_data { are_enough ⟦<DigestedData as Shaped>⟧.shape levels_max ≡ true }
     ensures encapsulated_content_info { are_enough
         ⟦<EncapsulatedContentInfo as Shaped>⟧.shape levels_max ≡ true }
@@ -28,7 +31,15 @@ pub fn types_are_within_levels()
         ⟦<OtherRevocationInfoFormat as Shaped>⟧.shape levels_max ≡ true }
     ensures revocation_info_choice { are_enough
         ⟦<RevocationInfoChoice as Shaped>⟧.shape levels_max ≡ true }
+    ensures revocation_info_choices { are_enough
+        ⟦<RevocationInfoChoices as Shaped>⟧.shape levels_max ≡ true }
+    ensures signed_attributes { are_enough ⟦<SignedAttributes as Shaped>⟧.shape levels_max ≡ true }
     ensures signed_data { are_enough ⟦<SignedData as Shaped>⟧.shape levels_max ≡ true }
     ensures signer_identifier { are_enough ⟦<SignerIdentifier as Shaped>⟧.shape levels_max ≡ true }
     ensures signer_info { are_enough ⟦<SignerInfo as Shaped>⟧.shape levels_max ≡ true }
+    ensures signer_infos { are_enough ⟦<SignerInfos as Shaped>⟧.shape levels_max ≡ true }
+    ensures unprotected_attributes { are_enough
+        ⟦<UnprotectedAttributes as Shaped>⟧.shape levels_max ≡ true }
+    ensures unsigned_attributes { are_enough
+        ⟦<UnsignedAttributes as Shaped>⟧.shape levels_max ≡ true }
 {}

@@ -10,6 +10,9 @@ use der_core::Shaped;
 /// No value of these types has more levels of nesting than a reader allows, so decoding accepts all
 /// of their encodings.
 pub fn types_are_within_levels()
+    ensures asymmetric_key_package { are_enough
+        ⟦<AsymmetricKeyPackage as Shaped>⟧.shape levels_max ≡ true }
+    ensures attributes { are_enough ⟦<Attributes as Shaped>⟧.shape levels_max ≡ true }
     ensures encrypted_private_key_info { are_enough
         ⟦<EncryptedPrivateKeyInfo as Shaped>⟧.shape levels_max ≡ true }
     ensures one_asymmetric_key { are_enough

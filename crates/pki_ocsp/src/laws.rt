@@ -10,6 +10,8 @@ use der_core::Shaped;
 /// No value of these types has more levels of nesting than a reader allows, so decoding accepts all
 /// of their encodings.
 pub fn types_are_within_levels()
+    ensures acceptable_responses { are_enough
+        ⟦<AcceptableResponses as Shaped>⟧.shape levels_max ≡ true }
     ensures basic_ocsp_response { are_enough
         ⟦<BasicOcspResponse as Shaped>⟧.shape levels_max ≡ true }
     ensures cert_id { are_enough ⟦<CertId as Shaped>⟧.shape levels_max ≡ true }
@@ -21,6 +23,8 @@ pub fn types_are_within_levels()
         ⟦<OcspResponseStatus as Shaped>⟧.shape levels_max ≡ true }
     ensures preferred_signature_algorithm { are_enough
         ⟦<PreferredSignatureAlgorithm as Shaped>⟧.shape levels_max ≡ true }
+    ensures preferred_signature_algorithms { are_enough
+        ⟦<PreferredSignatureAlgorithms as Shaped>⟧.shape levels_max ≡ true }
     ensures request { are_enough ⟦<Request as Shaped>⟧.shape levels_max ≡ true }
     ensures responder_id { are_enough ⟦<ResponderId as Shaped>⟧.shape levels_max ≡ true }
     ensures response_bytes { are_enough ⟦<ResponseBytes as Shaped>⟧.shape levels_max ≡ true }
