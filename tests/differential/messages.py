@@ -1,13 +1,16 @@
 #!/usr/bin/env python3
 """Compares what `cert_tool` describes of OCSP, messages, keys and timestamps with OpenSSL's text.
 
-    messages.py TOOL [--count N]
+    messages.py TOOL [--count N] [--changed N]
 
 OpenSSL and Python's `cryptography` make N values of each kind (tests/asn1/many.py). Facts, such as
 `serial 1001`, are taken from what `openssl ocsp`, `cms`, `pkey`, `asn1parse` and `ts` print of a
 value, and from the JSON of `cert_tool describe`, and have to be the same, in the same order. A
 certificate inside a value has to be described as it is alone. The lines have to be those that
 lines.py makes of the JSON, and no description of a private key may contain its bytes.
+
+With `--changed N`, it also changes a byte of each value N times. `cert_tool explain` has to report
+an error of the value, or of a content inside it, if and only if `describe` rejects or marks it.
 
 A difference is a line that only `cert_tool` has (`+`) or that only OpenSSL has (`-`). The status is
 1 if there is any.
@@ -463,6 +466,23 @@ class Comparer:
             self.counts["differences"] += 1
             print(f"key: {encoded.hex()}: its bytes are described")
 
+    def compare_changed(self, kind, encoded):
+        """Compares what is explained of a changed value with its description."""
+        status, document, _ = self.tool.ask(["describe", "--json", kind, "v"], {"v": encoded})
+        mark = "rejected" if status else content_mark(kind, json.loads(document))
+        words = ["explain", "--json", "--fail-on-remark", kind, "v"]
+        status, document, _ = self.tool.ask(words, {"v": encoded})
+        first = json.loads(document)["findings"][0]
+        wanted = {
+            "rejected": (1, True, "unread" in first),
+            "malformed": (1, True, False),
+            "unread": (0, True, True),
+            "none": (0, False, False),
+        }[mark]
+        self.compare("changed values", f"{kind} {encoded.hex()}", [str(wanted)],
+                     [str((status, "fault" in first, "unread" in first))])
+        self.counts[f"changed values ({mark})"] += 1
+
     def compare_value(self, kind, encoded):
         self.file.write_bytes(encoded)
         of = self.describe("key" if kind == "encrypted-key" else kind, encoded)
@@ -484,6 +504,20 @@ class Comparer:
                 self.compare_message(of["timeStampToken"])
 
 
+def changed(draw, octets):
+    """Changes one byte."""
+    place = draw.randrange(len(octets))
+    octet = draw.choice((*range(7), 0x30, 0x31, 0x80, 0xA0, 0xA1, draw.randrange(256)))
+    return octets[:place] + bytes([octet]) + octets[place + 1 :]
+
+
+def content_mark(kind, of):
+    """Returns the mark of a content inside a value that can't be decoded."""
+    of = of.get("timeStampToken", {}) if kind == "timestamp" else of
+    marks = [key for it in (of, of.get("encapContentInfo", {})) for key in it]
+    return next((it for it in marks if it in ("malformed", "unread")), "none")
+
+
 def pem(text):
     """Returns the certificates in PEM in a text, in DER."""
     found = re.findall("-----BEGIN CERT.*?END CERTIFICATE-----", text, re.S)
@@ -502,15 +536,19 @@ def main():
     parser = argparse.ArgumentParser(description=__doc__.splitlines()[0])
     parser.add_argument("tool", metavar="TOOL")
     parser.add_argument("--count", type=int, default=20, metavar="N", help="values of each kind")
+    parser.add_argument("--changed", type=int, default=0, metavar="N", help="changes of each value")
     given = parser.parse_args()
     with tempfile.TemporaryDirectory() as place:
         folder = pathlib.Path(place)
         by_openssl.make(folder)
-        maker = many.Maker(folder, random.Random(1))
+        maker, draw = many.Maker(folder, random.Random(1)), random.Random(1)
         comparer = Comparer(given.tool, folder / "value")
         for kind in KINDS:
             for _ in range(given.count):
-                comparer.compare_value(kind, maker.made(kind))
+                plain, encoded = kind.removeprefix("encrypted-"), maker.made(kind)
+                comparer.compare_value(kind, encoded)
+                for _ in range(given.changed):
+                    comparer.compare_changed(plain, changed(draw, encoded))
     print(", ".join(f"{count} {what}" for what, count in comparer.counts.items()))
     return comparer.counts["differences"] > 0
 

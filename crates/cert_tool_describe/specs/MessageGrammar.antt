@@ -232,16 +232,17 @@ cms_version = integer_among (0 ∷ 1 ∷ 2 ∷ 3 ∷ 4 ∷ 5 ∷ [])
 -- SignerInfo ::= SEQUENCE { version CMSVersion, sid SignerIdentifier, digestAlgorithm
 -- AlgorithmIdentifier, signedAttrs [0] IMPLICIT SET OF Attribute OPTIONAL, signatureAlgorithm
 -- AlgorithmIdentifier, signature OCTET STRING, unsignedAttrs [1] IMPLICIT SET OF Attribute OPTIONAL
--- } (RFC 5652 5.3). The decoder also rejects an empty set of attributes, which this grammar allows.
+-- } (RFC 5652 5.3). Both sets have at least one attribute, SIZE (1..MAX), as if DEFAULT {} stood in
+-- place of OPTIONAL.
 abbrev pub signer_info_fields : ℕ → Body
 signer_info_fields bound =
     field cms_version
     (field (signer_identifier bound)
     (field (algorithm_identifier bound)
-    (field (optional (inside 0 (rising (attribute bound))))
+    (field (defaulted (inside 0 (rising (attribute bound))) (160 ∷ 0 ∷ []))
     (field (algorithm_identifier bound)
     (field octet_string
-    (field (optional (inside 1 (rising (attribute bound)))) done))))))
+    (field (defaulted (inside 1 (rising (attribute bound))) (161 ∷ 0 ∷ [])) done))))))
 
 -- SignedData ::= SEQUENCE { version CMSVersion, digestAlgorithms SET OF AlgorithmIdentifier,
 -- encapContentInfo EncapsulatedContentInfo, certificates [0] IMPLICIT SET OF CertificateChoices

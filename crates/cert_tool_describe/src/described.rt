@@ -2,6 +2,7 @@
 ghost use Rattle.std.specs.Prelude.{◌≢◌, List, ℕ, IfErr, IfNone, IfSome, OnOk};
 ghost use Rattle.x509_cert_lists.specs.Der.ErrorTypes.ErrorKind.TheVariants.{OutOfMemory};
 
+use crate::content_error::ContentError;
 use cert_tool_lines::Lines;
 use std::alloc::Global;
 use x509_cert_lists::der::{Error, ErrorKind};
@@ -39,6 +40,12 @@ pub trait DescribeFile: Sized {
 
     // Adds the lines of the value, and those of the digests of its encoding and of its key.
     fn describe_file(&self, lines: &mut Lines, octets: &[u8]);
+
+    /// Returns the first error in the contents that the decoder of the value keeps as bytes, and
+    /// that `describe_file` decodes. The contents of extensions and attributes don't count.
+    fn content_error(&self, _alloc: Global, _octets: &[u8]) -> Option<ContentError> {
+        None
+    }
 }
 
 // Adds the description of a file with its digests, or returns the error if it is malformed. The

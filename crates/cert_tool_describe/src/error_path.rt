@@ -1,5 +1,6 @@
 //! Finds the fields that enclose a decoding error.
 
+use crate::content_error::{Content, ContentError};
 use crate::expected_fields::{Fields, MatchedField};
 use crate::parts::{Node, Part};
 use crate::unsupported::unsupported_text;
@@ -334,27 +335,30 @@ pub struct ErrorPath {
 }
 
 impl ErrorPath {
-    // Follows an error into the value at the beginning of the bytes, which is one of these fields.
-    // For a CHOICE with an unexpected tag, the error's position is that of the enclosing value.
+    // Follows an error of this kind, at the offset `place`, into the value at the offset `start`,
+    // which is one of these fields. For a CHOICE with an unexpected tag, the error's position is
+    // that of the enclosing value.
     fn follow(
         &mut self,
         octets: &[u8],
+        start: usize,
         root: &'static [Part],
-        error: &Error,
+        place: usize,
+        kind: ErrorKind,
     ) -> Result<(), AllocError> {
-        let place = self.place;
+        self.place = place;
         let mut sought = Target {
             place,
-            is_end: error.kind == ErrorKind::Incomplete,
+            is_end: kind == ErrorKind::Incomplete,
         };
         let mut fields = Fields::new(root, false);
-        let mut start = 0;
+        let mut start = start;
         let mut inner = octets;
         for _ in 0..MAX_LEVELS {
             match find(inner, start, fields, sought) {
                 Found::In(step) => {
                     self.steps.push(step)?;
-                    if is_of_tag(error.kind) && step.value.start == place {
+                    if is_of_tag(kind) && step.value.start == place {
                         sought.place = usize::MAX;
                     }
                     let is_cut = sought.is_end && step.value.is_cut_at(place);
@@ -370,7 +374,7 @@ impl ErrorPath {
                 }
                 Found::Between(at, behind) => {
                     let is_misfit = at < inner.len() && sought.place == usize::MAX;
-                    if is_of_parts(error.kind) && (at == place || is_misfit) {
+                    if is_of_parts(kind) && (at == place || is_misfit) {
                         self.place = at;
                         self.wanted = behind.next();
                     }
@@ -411,6 +415,14 @@ fn is_of_parts(kind: ErrorKind) -> bool {
     }
 }
 
+// Returns the offset of an error in the value that begins at the offset `start`.
+fn place_in(start: usize, error: &Error) -> usize {
+    match error.position {
+        Some(position) => start.saturating_add(position.value as usize),
+        None => start,
+    }
+}
+
 // Returns the path to an error in the value at the beginning of the bytes, which is one of these
 // fields.
 pub fn path_to(
@@ -419,20 +431,55 @@ pub fn path_to(
     root: &'static [Part],
     error: &Error,
 ) -> Result<ErrorPath, AllocError> {
-    let place = match error.position {
-        Some(position) => position.value as usize,
-        None => 0,
-    };
-    let mut way = ErrorPath {
-        steps: Vec::new(alloc),
-        place,
-        wanted: &[],
-    };
-    way.follow(octets, root, error)?;
+    let mut way = ErrorPath::new(alloc);
+    way.follow(octets, 0, root, place_in(0, error), error.kind)?;
+    Ok(way)
+}
+
+/// Returns the path to an error in a content of the value at the beginning of the bytes, which is
+/// one of these fields.
+pub fn path_into(
+    alloc: Global,
+    octets: &[u8],
+    root: &'static [Part],
+    fault: &ContentError,
+) -> Result<ErrorPath, AllocError> {
+    let mut way = ErrorPath::new(alloc);
+    let content = fault.content;
+    match fault.around {
+        Some(around) => {
+            way.lead_to(octets, 0, root, around)?;
+            way.lead_to(octets, around.start, around.root, content)?;
+        }
+        None => way.lead_to(octets, 0, root, content)?,
+    }
+    let place = place_in(content.start, &fault.error);
+    way.follow(octets, content.start, content.root, place, fault.error.kind)?;
     Ok(way)
 }
 
 impl ErrorPath {
+    // Returns a path without steps.
+    fn new(alloc: Global) -> ErrorPath {
+        ErrorPath {
+            steps: Vec::new(alloc),
+            place: 0,
+            wanted: &[],
+        }
+    }
+
+    // Adds the values that enclose a content, from the value at the offset `start`, which is one of
+    // these fields, to the field that has the content.
+    fn lead_to(
+        &mut self,
+        octets: &[u8],
+        start: usize,
+        root: &'static [Part],
+        content: Content,
+    ) -> Result<(), AllocError> {
+        self.follow(octets, start, root, content.field, ErrorKind::Failed)
+    }
+
     /// Returns the bytes from the error on.
     pub fn rest<'a>(&self, octets: &'a [u8]) -> &'a [u8] {
         match octets.get(self.place..) {

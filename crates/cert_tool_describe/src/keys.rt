@@ -205,9 +205,10 @@ fn bits_of(lines: &mut Lines, parameters: &Any, values: &[Any]) -> u64 {
     }
     match values {
         [_, _, _, _, order, ..] if is_equation(lines, values) => {
-            match order.decode_as::<Uint>(lines.alloc) {
-                Ok(order) => bit_len(order.as_bytes()) as u64,
-                Err(_) => 0,
+            let order = order.decode_as::<Uint>(lines.alloc);
+            match noted(lines, order) {
+                Some(order) => bit_len(order.as_bytes()) as u64,
+                None => 0,
             }
         }
         _ => 0,

@@ -3,6 +3,7 @@
 #![tactic(auto)]
 
 mod algorithms;
+mod content_error;
 mod content_parts;
 mod contents;
 mod curves;
@@ -29,13 +30,14 @@ pub use algorithms::{
     add_algorithm, add_algorithm_members, add_bit_row, add_malformed_parameters, add_parameters,
     add_signature,
 };
+pub use content_error::{Content, ContentError, error_in};
 pub use content_parts::parts_of_content;
 pub use contents::{add_extension, add_extensions, add_undecoded, begin_extension, content_fault};
 pub use dates::{encodes, two};
 pub use described::{Describe, DescribeFile, add_content};
 pub use description::{add_certificate, add_certificate_item};
 pub use error_path::{
-    ErrorPath, Inside, Step, content_at, content_place, is_followed, path_to, place_of,
+    ErrorPath, Inside, Step, content_at, content_place, is_followed, path_into, path_to, place_of,
 };
 pub use general_names::{add_general_name, kind_of};
 pub use keys::{add_bits, add_digests, add_key_parameters, bit_len};

@@ -5,7 +5,9 @@ ghost use Rattle.cert_tool_explain.specs.KeptChains.{are_kept, keeps_each_rule};
 
 use crate::anchors::{Scope, add_unchecked};
 use crate::chain_entry::ChainEntry;
-use crate::reasons::{LengthReasons, add_reason_of, begin_breach, begin_detail};
+use crate::reasons::{
+    LengthReasons, add_reason_of, begin_breach, begin_detail, malformed_extension,
+};
 use crate::remark_lines::end_remark;
 use crate::remarks::add_remarks;
 use crate::serial_numbers::SerialNumbers;
@@ -234,7 +236,8 @@ fn add_entries_of_chain(
             begin_place(lines, &place);
             add_breaches(lines, &place, kept, lengths, judged);
             add_unchecked_extensions(lines, &place, judged.is_strict);
-            add_remarks(lines, &place, twin);
+            let reported = malformed_extension(lines, &place, kept, judged.purpose);
+            add_remarks(lines, &place, twin, reported);
             end_details(lines);
         }
     }

@@ -354,16 +354,20 @@ pub fn add_certificate_remarks<'a>(
 }
 
 // Adds the remarks on extensions whose content is malformed. The extensions are at the end of a
-// path of fields.
+// path of fields. The extension at the index `reported` is skipped: a broken rule reports it.
 pub fn add_malformed_remarks<'a>(
     lines: &mut Lines,
     subject: &Subject<'a>,
     extensions: &'a [Extension],
     path: &'static str,
+    reported: Option<usize>,
 ) {
     let mut places = extensions_at(subject, path);
-    for extension in extensions {
+    for (number, extension) in extensions.iter().enumerate() {
         let place = places.next();
+        if reported == Some(number) {
+            continue;
+        }
         if let Some(error) = content_fault(lines.alloc, extension) {
             let part = extension_at(subject, place, extension, path);
             add_content_finding(lines, &part, None, extension, &error);
@@ -409,6 +413,6 @@ pub fn add_lone_remarks<'a>(
         )],
     );
     add_twin_remark(lines, &subject, extensions, "extensions");
-    add_malformed_remarks(lines, &subject, extensions, "extensions");
+    add_malformed_remarks(lines, &subject, extensions, "extensions", None);
     add_certificate_remarks(lines, &subject, signed);
 }

@@ -5,8 +5,8 @@ use crate::format_hints::{format_hint, is_signed_data};
 use cert_tool_describe::der::{Error, ErrorKind, Tag};
 use cert_tool_describe::tool_lines::Lines;
 use cert_tool_describe::{
-    ErrorPath, Node, Part, Step, content_at, is_any, is_followed, parts_of, path_to,
-    unsupported_type,
+    ContentError, ErrorPath, Node, Part, Step, content_at, is_any, is_followed, parts_of,
+    path_into, path_to, unsupported_type,
 };
 
 // Returns a file of this kind as a list of one field.
@@ -282,6 +282,26 @@ pub fn add_fault(lines: &mut Lines, octets: &[u8], offset: u64, kind: Node, erro
     };
     if !hint.is_empty() {
         lines.text_row("", "hint", hint);
+    }
+    lines.close();
+}
+
+/// Adds an error in a content of a file of this kind, and the enclosing values. If the content is
+/// valid and isn't supported, the file has no remark because of it.
+pub fn add_fault_inside(lines: &mut Lines, octets: &[u8], kind: Node, fault: &ContentError) {
+    let octets = match octets.get(..fault.content.end) {
+        Some(octets) => octets,
+        None => octets,
+    };
+    lines.entry("");
+    match path_into(lines.alloc, octets, alone(kind), fault) {
+        Ok(way) => {
+            if way.unread(octets, fault.error.kind).is_empty() {
+                lines.has_remarks = true;
+            }
+            add_members(lines, octets, 0, fault.error.kind, &way);
+        }
+        Err(_) => lines.fail(),
     }
     lines.close();
 }

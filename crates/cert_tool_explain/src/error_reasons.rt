@@ -95,6 +95,10 @@ fn form_words(tag: Tag, content: &[u8], name: &str) -> Words {
         Tag::Boolean => boolean_words(content),
         Tag::Null => (": NULL must be empty", "X.690 8.8.2"),
         tag if tag.is_context_specific() && is_flag(name) => boolean_words(content),
+        _ if matches!(name, "signedAttrs" | "unsignedAttrs") => (
+            ": the set must have an attribute",
+            "RFC 5652 5.3",
+        ),
         tag if tag.is_constructed() => DEFAULT,
         _ => match content {
             [0, 0..=0x7f, ..] | [0xff, 0x80..=0xff, ..] => {
@@ -131,6 +135,22 @@ fn version_words(around: Node) -> Words {
         Node::AnchorInfo => (
             ": the version of a TrustAnchorInfo must be 1 (v1)",
             "RFC 5914 2.1",
+        ),
+        Node::OcspVersion => (
+            ": the version of an OCSP request or response must be 0 (v1)",
+            "RFC 6960 4.1.1",
+        ),
+        Node::SignedData | Node::SignerInfo => (
+            ": the version must be 0, 1, 2, 3, 4 or 5 (v0 to v5)",
+            "RFC 5652 10.2.5",
+        ),
+        Node::Key => (
+            ": the version of a private key must be 0 or 1 (v1, v2)",
+            "RFC 5958 2",
+        ),
+        Node::TimestampInfo => (
+            ": the version of a TSTInfo must be 1 (v1)",
+            "RFC 3161 2.4.2",
         ),
         _ => (
             ": the version must be 0, 1 or 2 (v1, v2, v3)",

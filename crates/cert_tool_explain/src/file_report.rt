@@ -3,7 +3,7 @@
 ghost use Rattle.std.specs.Prelude.{◌≡◌, true, false, IfOk};
 ghost use Rattle.cert_tool_explain.specs.Reports.{IsReportOn};
 
-use crate::error_lines::add_fault;
+use crate::error_lines::{add_fault, add_fault_inside};
 use crate::remarked::Remarked;
 use crate::report::Report;
 use cert_tool_describe::der::{Error, ErrorKind};
@@ -19,7 +19,8 @@ pub enum Contents {
         /// Whether there are digests.
         has_digests: bool,
     },
-    /// The remarks on the value.
+    /// The error in the contents that the decoder of the value keeps as bytes, or that there is
+    /// none, and the remarks on the value.
     Remarks,
 }
 
@@ -32,12 +33,28 @@ pub struct FileKind {
     pub valid: &'static str,
 }
 
+// Adds the error in the contents of a value that these bytes encode, or that there is none, and the
+// remarks.
+fn add_findings<T: DescribeFile + Remarked>(
+    lines: &mut Lines,
+    octets: &[u8],
+    value: &T,
+    kind: FileKind,
+) {
+    match value.content_error(lines.alloc, octets) {
+        Some(fault) if fault.error.kind == ErrorKind::OutOfMemory => lines.fail(),
+        Some(fault) => add_fault_inside(lines, octets, kind.node, &fault),
+        None => lines.finding(kind.valid),
+    }
+    value.add_remarks(lines, octets);
+}
+
 // Returns the report on a value that these bytes encode.
 fn report_on_value<T: DescribeFile + Remarked>(
     alloc: Global,
     octets: &[u8],
     value: &T,
-    valid: &str,
+    kind: FileKind,
     contents: Contents,
     is_json: bool,
 ) -> Result<Report, AllocError>
@@ -51,8 +68,7 @@ fn report_on_value<T: DescribeFile + Remarked>(
         }
         Contents::Remarks => {
             lines.list("findings");
-            lines.finding(valid);
-            value.add_remarks(&mut lines, octets);
+            add_findings(&mut lines, octets, value, kind);
             lines.end_list();
         }
     }
@@ -106,7 +122,7 @@ pub fn report_on<T: DescribeFile + Remarked + Drop>(
 {
     match T::read_file(alloc, octets) {
         Ok(value) => {
-            let report = report_on_value(alloc, octets, &value, kind.valid, contents, is_json)?;
+            let report = report_on_value(alloc, octets, &value, kind, contents, is_json)?;
             Ok(report)
         }
         Err(error) => match error.kind {

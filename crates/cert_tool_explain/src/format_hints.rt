@@ -11,6 +11,10 @@ const PEM_MARK: &[u8] = b"-----BEGIN ";
 // The identifier of signedData (RFC 5652 5.1), with which a file of PKCS #7 begins.
 const SIGNED_DATA: &[u8] = &[6, 9, 0x2a, 0x86, 0x48, 0x86, 0xf7, 0x0d, 1, 7, 2];
 
+// The beginning of the identifiers of PKCS #7, with one of which the second field of a PKCS #12
+// file begins (RFC 7292 4).
+const PKCS7: &[u8] = &[6, 9, 0x2a, 0x86, 0x48, 0x86, 0xf7, 0x0d, 1, 7];
+
 // Returns whether a text may contain this byte.
 fn is_of_text(octet: u8) -> bool {
     octet >= b' ' || octet == b'\t' || octet == b'\n' || octet == b'\r'
@@ -42,6 +46,28 @@ pub fn is_signed_data(octets: &[u8]) -> bool {
     content_at(octets, 0).starts_with(SIGNED_DATA)
 }
 
+// Returns the content of the SEQUENCE at the beginning of the bytes, and what follows it. The
+// length may be indefinite, as some programs write it.
+fn in_sequence(octets: &[u8]) -> &[u8] {
+    match octets {
+        [0x30, 0..=0x80, rest @ ..] => rest,
+        [0x30, 0x81, _, rest @ ..] => rest,
+        [0x30, 0x82, _, _, rest @ ..] => rest,
+        [0x30, 0x83, _, _, _, rest @ ..] => rest,
+        [0x30, 0x84, _, _, _, _, rest @ ..] => rest,
+        _ => &[],
+    }
+}
+
+// Returns whether bytes begin as a PKCS #12 file does: with the version 3, and a ContentInfo (RFC
+// 7292 4).
+fn is_pkcs12(octets: &[u8]) -> bool {
+    match in_sequence(octets) {
+        [2, 1, 3, rest @ ..] => in_sequence(rest).starts_with(PKCS7),
+        _ => false,
+    }
+}
+
 /// Returns a hint at the format of a file that isn't DER of the expected kind, or an empty text.
 pub fn format_hint(octets: &[u8]) -> &'static str {
     match octets {
@@ -60,6 +86,10 @@ pub fn format_hint(octets: &[u8]) -> &'static str {
         _ if is_signed_data(octets) => {
             "(PKCS #7 or CMS; `cert_tool describe message FILE` describes it, and \
             `openssl pkcs7 -inform DER -in FILE -print_certs` prints its certificates)"
+        }
+        _ if is_pkcs12(octets) => {
+            "(PKCS #12; `openssl pkcs12 -in FILE -nodes -out OUT` writes its certificates and its \
+            private keys, unencrypted, in PEM)"
         }
         _ => "",
     }

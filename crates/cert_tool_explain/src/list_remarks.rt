@@ -345,7 +345,7 @@ fn add_extension_remarks<'a>(
     let path = "crlExtensions";
     add_twin_remark(lines, subject, extensions, path);
     add_extension_facts(lines, subject, &facts);
-    add_malformed_remarks(lines, subject, extensions, path);
+    add_malformed_remarks(lines, subject, extensions, path, None);
     let mut places = extensions_at(subject, path);
     for extension in extensions {
         let part = extension_at(subject, places.next(), extension, path);

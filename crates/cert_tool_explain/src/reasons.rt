@@ -162,6 +162,24 @@ pub(crate) fn add_reason_of(
     }
 }
 
+// Returns the index of the malformed extension for which a certificate breaks
+// `Rule::MalformedExtension`, or `None` if it keeps the rule.
+pub(crate) fn malformed_extension(
+    lines: &mut Lines,
+    place: &ChainEntry<'_>,
+    kept: &KeptRules,
+    purpose: &ObjectIdentifier<39>,
+) -> Option<usize> {
+    let rule = Rule::MalformedExtension;
+    if kept.keeps(rule) {
+        return None;
+    }
+    match first_reason(lines, place.bundle, place.number, rule, purpose) {
+        Some(Reason::Extension(number)) => Some(number),
+        _ => None,
+    }
+}
+
 // Finds the reasons for paths that are too long. The later a certificate is, the earlier is the
 // first one whose path length it exceeds. So once a certificate has the same reason as the last
 // one, all later ones do; and since a path length is at most 255, at most that many come before.

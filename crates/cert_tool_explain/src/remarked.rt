@@ -2,12 +2,12 @@
 
 use crate::certificate_remarks::add_lone_remarks;
 use crate::list_remarks::add_list_remarks;
-use cert_tool_describe::DescribeFile;
 use cert_tool_describe::cert_certificates::CertificateInner;
 use cert_tool_describe::cert_lists::CertificateList;
 use cert_tool_describe::cert_parts::Raw;
 use cert_tool_describe::der::Error;
 use cert_tool_describe::tool_lines::Lines;
+use cert_tool_describe::{ContentError, DescribeFile};
 use std::alloc::Global;
 
 /// A value that a file contains and that can have remarks.
@@ -44,6 +44,10 @@ impl<T: DescribeFile + Drop> DescribeFile for WithoutRemarks<T> {
 
     fn describe_file(&self, lines: &mut Lines, octets: &[u8]) {
         self.0.describe_file(lines, octets);
+    }
+
+    fn content_error(&self, alloc: Global, octets: &[u8]) -> Option<ContentError> {
+        self.0.content_error(alloc, octets)
     }
 }
 

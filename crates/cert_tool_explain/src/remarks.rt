@@ -1,7 +1,7 @@
 //! Remarks on a certificate in its chain: what no rule forbids, but the issuer may not have
 //! intended.
 
-use crate::certificate_remarks::{add_certificate_remarks, certificate_at};
+use crate::certificate_remarks::{add_certificate_remarks, add_malformed_remarks, certificate_at};
 use crate::chain_entry::ChainEntry;
 use crate::remark_lines::{Subject, begin_remark, end_at};
 use cert_tool_describe::tool_lines::Lines;
@@ -35,10 +35,17 @@ fn add_twin_remark(lines: &mut Lines, subject: &Subject<'_>, twin: Option<usize>
 }
 
 // Adds the remarks on a certificate. `twin` is the index of the last earlier certificate with the
-// same issuer and serial number.
-pub(crate) fn add_remarks(lines: &mut Lines, place: &ChainEntry<'_>, twin: Option<usize>) {
+// same issuer and serial number. `reported` is the index of the malformed extension that a broken
+// rule reports.
+pub(crate) fn add_remarks(
+    lines: &mut Lines,
+    place: &ChainEntry<'_>,
+    twin: Option<usize>,
+    reported: Option<usize>,
+) {
     let subject = certificate_at(place.octets, place.offset);
     add_date_remark(lines, &subject, place);
     add_twin_remark(lines, &subject, twin);
+    add_malformed_remarks(lines, &subject, place.extensions(), "extensions", reported);
     add_certificate_remarks(lines, &subject, place.certificate.tbs_certificate());
 }

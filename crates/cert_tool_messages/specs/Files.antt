@@ -4,7 +4,8 @@ use Rattle.cert_tool_describe.specs.Oid.Bound.{Bound}
 use Rattle.cert_tool_describe.specs.Der.Shapes.{Body, BodyValue, Spells, sequence}
 use Rattle.cert_tool_describe.specs.MessageGrammar.{ocsp_request_fields, ocsp_response_fields}
 use Rattle.cert_tool_describe.specs.MessageGrammar.{content_info_fields, time_stamp_resp_fields}
-use Rattle.cert_tool_describe.specs.MessageGrammar.{basic_response_fields, tst_info_fields}
+use Rattle.cert_tool_describe.specs.MessageGrammar.{basic_response_fields, signed_data_fields}
+use Rattle.cert_tool_describe.specs.MessageGrammar.{tst_info_fields}
 use Rattle.cert_tool_describe.specs.MessageGrammar.{one_asymmetric_key_fields}
 use Rattle.cert_tool_describe.specs.MessageGrammar.{encrypted_private_key_info_fields}
 
@@ -27,6 +28,10 @@ IsBasicResponse octets = IsSequence (basic_response_fields Bound) octets
 -- The bytes are the encoding of a message (RFC 5652 3).
 abbrev pub IsMessage : List ℕ → Type 0
 IsMessage octets = IsSequence (content_info_fields Bound) octets
+
+-- The bytes are the encoding of a SignedData (RFC 5652 5.1).
+abbrev pub IsSignedData : List ℕ → Type 0
+IsSignedData octets = IsSequence (signed_data_fields Bound) octets
 
 -- The bytes are the encoding of a private key that isn't encrypted (RFC 5958 2).
 abbrev pub IsPlainKey : List ℕ → Type 0

@@ -1,4 +1,4 @@
-//! Prints attributes (RFC 5652 5.3, 11, RFC 5958 2).
+//! Describes attributes (RFC 5652 5.3, 11, RFC 5958 2).
 
 use cert_tool_describe::cert_names::Attribute;
 use cert_tool_describe::der::Tag;
@@ -7,7 +7,8 @@ use cert_tool_describe::tool_lines::Lines;
 use cert_tool_describe::types::{Any, DateTime, GeneralizedTime, UtcTime};
 use cert_tool_describe::{add_value, noted};
 
-// Returns the date of a value, if it is one.
+// Returns the date of a value, or `None` if the value isn't a UTCTime or GeneralizedTime that can
+// be decoded.
 fn date_in(lines: &mut Lines, value: &Any) -> Option<DateTime> {
     match value.tag() {
         Tag::UtcTime => {
@@ -24,7 +25,7 @@ fn date_in(lines: &mut Lines, value: &Any) -> Option<DateTime> {
     }
 }
 
-// Returns the object identifier of a value, if it is one.
+// Returns the object identifier of a value, or `None` if the value isn't one that can be decoded.
 fn identifier_in(lines: &mut Lines, value: &Any) -> Option<ObjectIdentifier<39>> {
     if value.tag() != Tag::ObjectIdentifier {
         return None;

@@ -1,4 +1,4 @@
-//! Prints object identifiers and general names as members of their own.
+//! Describes object identifiers and general names as members of their own.
 
 use cert_tool_describe::add_general_name;
 use cert_tool_describe::cert_general_names::GeneralName;

@@ -1,4 +1,5 @@
-//! Describes private keys (RFC 5958). The bytes of a private key are never printed.
+//! Describes private keys (RFC 5958). The bytes of the field `privateKey` aren't printed. No
+//! contract states this, because none says what is printed.
 
 ghost use Rattle.std.specs.Prelude.{◌≢◌, IfErr, OnOk};
 ghost use Rattle.cert_tool_describe.specs.Der.ErrorTypes.ErrorKind.TheVariants.{OutOfMemory};
@@ -32,8 +33,9 @@ fn is_encrypted(octets: &[u8]) -> bool {
     matches!(content_at(octets, 0), [0x30, ..])
 }
 
-/// Returns the kind of the value in a file with a private key that can't be decoded: that of an
-/// encrypted key, if its first field is a SEQUENCE.
+/// Returns the container for which an error is reported if a file with a private key can't be
+/// decoded: `EncryptedKey` if the first field is a SEQUENCE, otherwise `Key`. No contract states
+/// this.
 pub fn key_node(octets: &[u8]) -> Node {
     if is_encrypted(octets) {
         Node::EncryptedKey
@@ -93,8 +95,8 @@ fn string_bits(lines: &mut Lines, octets: &[u8]) -> Option<u64> {
     Some((string.as_bytes().len() as u64).saturating_mul(8))
 }
 
-// Adds a line with the number of bits of a private key, if its algorithm is known, but isn't EC or
-// DSA, whose number of bits follows from the parameters.
+// Adds a line with the number of bits of a private key of RSA or of RFC 8410. That of an EC or DSA
+// key follows from its parameters.
 fn add_size(lines: &mut Lines, key: &OneAsymmetricKey) {
     let octets = key.private_key.as_bytes();
     let algorithm = key.private_key_algorithm.oid.as_bytes();

@@ -1,5 +1,9 @@
 //! Describes OCSP requests and responses, signed messages, private keys and timestamps, as lines
-//! for readers or as JSON for programs.
+//! for readers or as JSON for programs. The contracts say which files are accepted, and not which
+//! lines are written.
+//!
+//! The functions append to `Lines`. Their parameter `word` is the word that begins a line of text,
+//! and `key` is the name of the member in JSON.
 #![tactic(auto)]
 
 mod attributes;

@@ -1,18 +1,19 @@
 //! Describes messages (RFC 5652 3, 5).
 
-ghost use Rattle.cert_tool_messages.specs.Files.{IsMessage};
+ghost use Rattle.std.specs.Prelude.{OnOk};
+ghost use Rattle.cert_tool_messages.specs.Files.{IsMessage, IsSignedData};
 
 use crate::identifiers::add_identifier;
 use crate::signers::{add_signer, add_version};
-use crate::timestamp_info::add_timestamp_info;
+use crate::timestamp_info::{add_timestamp_info, error_in_timestamp_info};
 use cert_tool_describe::cert_parts::AlgorithmIdentifier;
 use cert_tool_describe::der::{Error, FromDer, ToDer};
 use cert_tool_describe::oid::ObjectIdentifier;
 use cert_tool_describe::tool_lines::Lines;
 use cert_tool_describe::types::Any;
 use cert_tool_describe::{
-    Describe, DescribeFile, Node, Part, add_algorithm_members, add_certificate_item, add_content,
-    add_digests, add_list_item, add_undecoded, add_value, noted,
+    Content, ContentError, Describe, DescribeFile, Node, Part, add_algorithm_members,
+    add_certificate_item, add_content, add_digests, add_list_item, add_undecoded, add_value, noted,
 };
 use pki_cms::identifiers::id_signed_data;
 use pki_cms::{
@@ -21,7 +22,7 @@ use pki_cms::{
 use pki_timestamps::identifiers::id_ct_tst_info;
 use std::alloc::Global;
 
-// The one value of the content: a SEQUENCE without a name of its own.
+// The content has one value, a SEQUENCE. It has no field name.
 const SIGNED_DATA: [Part; 1] = [(Some(0x30), false, "", Node::SignedData)];
 
 // Adds a line for each digest algorithm.
@@ -141,12 +142,14 @@ fn add_signers(lines: &mut Lines, signers: &[SignerInfo]) {
     lines.end_list();
 }
 
-// A SignedData, as this crate describes it.
+// Implements `Describe` for SignedData.
 #[derive(Drop)]
 struct Signed(SignedData);
 
 impl Describe for Signed {
-    fn read_content(alloc: Global, octets: &[u8]) -> Result<Signed, Error> {
+    fn read_content(alloc: Global, octets: &[u8]) -> Result<Signed, Error>
+        ensures spelled { OnOk result (IsSignedData octets.now) }
+    {
         Ok(Signed(SignedData::from_der(alloc, octets)?))
     }
 
@@ -182,6 +185,50 @@ pub fn add_content_info(lines: &mut Lines, info: &pki_cms::ContentInfo) {
     }
 }
 
+// Returns the error in the encapsulated content of a SignedData, if it is a TSTInfo.
+fn error_in_encapsulated(
+    alloc: Global,
+    octets: &[u8],
+    around: Content,
+    content: &EncapsulatedContentInfo,
+) -> Option<ContentError> {
+    if content.e_content.is_some() && content.e_content_type == id_ct_tst_info() {
+        error_in_timestamp_info(alloc, octets, around)
+    } else {
+        None
+    }
+}
+
+// Returns the error in a SignedData, or in the TSTInfo inside it.
+fn error_in_signed_data(alloc: Global, octets: &[u8], content: Content) -> Option<ContentError> {
+    match Signed::read_content(alloc, content.octets_in(octets)) {
+        Ok(signed) => {
+            error_in_encapsulated(alloc, octets, content, &signed.0.encap_content_info)
+        }
+        Err(error) => Some(ContentError {
+            content,
+            around: None,
+            error,
+        }),
+    }
+}
+
+/// Returns the error in the content of the message at an offset of a file if the content is a
+/// SignedData, or in the TSTInfo inside it.
+pub fn error_in_content(
+    alloc: Global,
+    octets: &[u8],
+    start: usize,
+    info: &pki_cms::ContentInfo,
+) -> Option<ContentError> {
+    if info.content_type == id_signed_data() {
+        let content = Content::of(octets, start, Node::Message, "content", &SIGNED_DATA);
+        error_in_signed_data(alloc, octets, content)
+    } else {
+        None
+    }
+}
+
 /// A message (RFC 5652 3).
 #[derive(Drop)]
 pub struct ContentInfo(pub pki_cms::ContentInfo);
@@ -197,5 +244,9 @@ impl DescribeFile for ContentInfo {
         lines.text_row("", "kind", "message");
         add_content_info(lines, &self.0);
         add_digests(lines, ["message-sha1", "message-sha256"], octets);
+    }
+
+    fn content_error(&self, alloc: Global, octets: &[u8]) -> Option<ContentError> {
+        error_in_content(alloc, octets, 0, &self.0)
     }
 }

@@ -1,4 +1,4 @@
-//! Prints the extensions of OCSP (RFC 6960 4.4, RFC 8954 2.1).
+//! Describes the extensions of OCSP (RFC 6960 4.4, RFC 8954 2.1).
 
 use cert_tool_describe::cert_parts::{Extension, Extensions};
 use cert_tool_describe::der::Error;
@@ -140,8 +140,8 @@ fn number_of(extension: &Extension) -> Option<u8> {
     }
 }
 
-// Adds the lines of an extension. One that isn't of OCSP is an extension of certificates or CRLs
-// (RFC 6960 4.4.5), or isn't known.
+// Adds the lines of an extension. If `number_of` returns `None`, it is described as an extension of
+// certificates or CRLs (RFC 6960 4.4.5), or as unknown.
 fn add_ocsp_extension(lines: &mut Lines, extension: &Extension) {
     let Some(number) = number_of(extension) else {
         add_extension(lines, extension);

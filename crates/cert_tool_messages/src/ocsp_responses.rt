@@ -9,8 +9,8 @@ use crate::ocsp_requests::{add_cert_id, add_certs, add_version};
 use cert_tool_describe::der::{Error, FromDer};
 use cert_tool_describe::tool_lines::Lines;
 use cert_tool_describe::{
-    Describe, DescribeFile, Node, Part, add_content, add_date, add_digests, add_name_members,
-    add_signature, add_undecoded, reason_name,
+    Content, ContentError, Describe, DescribeFile, Node, Part, add_content, add_date, add_digests,
+    add_name_members, add_signature, add_undecoded, error_in, reason_name,
 };
 use pki_ocsp::identifiers::id_pkix_ocsp_basic;
 use pki_ocsp::{
@@ -134,6 +134,13 @@ fn add_response_bytes(lines: &mut Lines, bytes: &ResponseBytes) {
     }
 }
 
+// Returns the error in the basic response of a file, if there is one.
+fn error_in_basic_response(alloc: Global, octets: &[u8]) -> Option<ContentError> {
+    let path = "responseBytes..response";
+    let content = Content::of(octets, 0, Node::OcspResponse, path, &BASIC_RESPONSE);
+    error_in::<BasicResponse>(alloc, octets, content, None)
+}
+
 /// An OCSP response (RFC 6960 4.2.1).
 #[derive(Drop)]
 pub struct OcspResponse(pub pki_ocsp::OcspResponse);
@@ -157,5 +164,14 @@ impl DescribeFile for OcspResponse {
         }
         let names = ["ocsp-response-sha1", "ocsp-response-sha256"];
         add_digests(lines, names, octets);
+    }
+
+    fn content_error(&self, alloc: Global, octets: &[u8]) -> Option<ContentError> {
+        match &self.0.response_bytes {
+            Some(bytes) if bytes.response_type == id_pkix_ocsp_basic() => {
+                error_in_basic_response(alloc, octets)
+            }
+            _ => None,
+        }
     }
 }

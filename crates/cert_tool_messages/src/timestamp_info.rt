@@ -7,7 +7,8 @@ use crate::identifiers::{add_identifier, add_named};
 use cert_tool_describe::der::{Error, FromDer};
 use cert_tool_describe::tool_lines::Lines;
 use cert_tool_describe::{
-    Describe, Node, Part, add_algorithm, add_content, add_date, add_extensions, add_undecoded,
+    Content, ContentError, Describe, Node, Part, add_algorithm, add_content, add_date,
+    add_extensions, add_undecoded, error_in,
 };
 use pki_timestamps::{Accuracy, MessageImprint, TstInfo, TstInfoVersion};
 use std::alloc::Global;
@@ -77,6 +78,19 @@ impl Describe for TimestampInfo {
         add_date(lines, "time", "genTime", &self.0.gen_time);
         add_options(lines, &self.0);
     }
+}
+
+/// Returns the error in the TSTInfo inside a SignedData, if there is one.
+pub fn error_in_timestamp_info(
+    alloc: Global,
+    octets: &[u8],
+    around: Content,
+) -> Option<ContentError> {
+    // The last name is empty: the field of an explicit tag.
+    let path = "encapContentInfo.eContent.";
+    let start = around.start;
+    let content = Content::of(octets, start, Node::SignedData, path, &TIMESTAMP_INFO);
+    error_in::<TimestampInfo>(alloc, octets, content, Some(around))
 }
 
 /// Adds the lines of a TSTInfo.

@@ -2,14 +2,15 @@
 
 ghost use Rattle.cert_tool_messages.specs.Files.{IsTimestamp};
 
-use crate::messages::add_content_info;
+use crate::messages::{add_content_info, error_in_content};
 use cert_tool_describe::der::{Error, FromDer};
 use cert_tool_describe::tool_lines::Lines;
-use cert_tool_describe::{DescribeFile, add_digests, add_flags};
+use cert_tool_describe::{ContentError, DescribeFile, Node, add_digests, add_flags, place_of};
 use pki_timestamps::{PkiFailureInfoBits as Bits, PkiStatus, PkiStatusInfo};
 use std::alloc::Global;
 
-// The bits of PKIFailureInfo. Those without a name are reserved.
+// The bits of PKIFailureInfo. RFC 3161 2.4.2 names only some of them. The others are described by
+// their numbers.
 const FAILURES: [(Bits, &str); 26] = [
     (Bits::BadAlg, "badAlg"),
     (Bits::Bit1, "bit 1"),
@@ -92,5 +93,15 @@ impl DescribeFile for TimeStampResp {
             lines.close();
         }
         add_digests(lines, ["timestamp-sha1", "timestamp-sha256"], octets);
+    }
+
+    fn content_error(&self, alloc: Global, octets: &[u8]) -> Option<ContentError> {
+        match &self.0.time_stamp_token {
+            Some(token) => {
+                let start = place_of(octets, 0, Node::Timestamp, "timeStampToken");
+                error_in_content(alloc, octets, start, token)
+            }
+            None => None,
+        }
     }
 }
