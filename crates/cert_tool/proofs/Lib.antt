@@ -4,3 +4,4 @@ mod DescribedStreamLaws
 mod ReportLaws
 mod SentInputLaws
 mod ServingLaws
+mod ValueSizes

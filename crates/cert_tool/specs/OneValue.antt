@@ -31,12 +31,21 @@ has_surplus octets =
     if nat_lt most_surplus (length octets)
     then nat_lt (value_size octets + most_surplus) (length octets) else false
 
+-- The most bytes that one read returns.
+abbrev pub read_size : ℕ
+read_size = 2048
+
+-- Reading stopped soon after the first value: at most 66 KiB follow it.
+unfoldable pub IsBounded : List ℕ → Type 0
+IsBounded octets = length octets ≤ value_size octets + (most_surplus + read_size)
+
 -- These bytes were read from a file that should be one value: all of its bytes, or its first bytes,
--- in which a value is followed by too many others.
+-- in which a value is followed by too many others. No more were read than that takes.
 abbrev pub IsValueRead : Device → List ℕ → Type 0
 IsValueRead d octets =
-    IsWhole d most_octets octets
-    ⊎ ((has_surplus octets ≡ true) × Moved d octets × (length octets ≤ most_octets) × Sound d)
+    (IsWhole d most_octets octets
+    ⊎ ((has_surplus octets ≡ true) × Moved d octets × (length octets ≤ most_octets) × Sound d))
+    × IsBounded octets
 
 -- These bytes were read from a file that should be one value, or from any other file.
 abbrev pub IsReadIf : Bool → Device → List ℕ → Type 0

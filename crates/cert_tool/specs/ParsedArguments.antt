@@ -248,3 +248,9 @@ abbrev pub given_read : Result ParsedArguments ArgumentError
     → Result PlainArguments PlainArgumentError
 given_read (Ok g) = Ok (arguments_plain g)
 given_read (Err fault) = Err (error_plain fault)
+
+-- The abstract value of the arguments after more of them were parsed, or the error.
+abbrev pub given_after : Result (Unit {0}) ArgumentError → ParsedArguments
+    → Result PlainArguments PlainArgumentError
+given_after (Ok done) g = Ok (arguments_plain g)
+given_after (Err fault) g = Err (error_plain fault)

@@ -124,13 +124,15 @@ Prints the first error in FILE, the byte at which it is, and the parts around th
 certificate or a CRL can be decoded, prints remarks: requirements of RFC 5280 that it doesn't meet.
 `explain chain` prints which rules each certificate breaks, and why, and the remarks. It takes the
 options of `verify`, except --warn-days; with `--answers /dev/null`, every signature counts as
-invalid. If STREAM can't be decoded or is empty, the status is that of `verify`; it is 1 if a check
-of --host or --strict fails.
+invalid. If STREAM can't be decoded or is empty, the status is that of `verify`. It is 1 if a check
+of --host or --strict fails or, with --strict, if no trust anchor issued the chain.
+Without --fail-on-remark the status is 0 even if FILE has an error or the chain breaks a rule.
 KIND       certificate, list (a CRL), request (a CSR), ocsp-request, ocsp-response, message (CMS),
            key (a private key) or timestamp (a response)
 --fail-on-remark  the exit status is 1, and not 0, if there is a remark, a broken rule or, for
            `explain KIND`, an error of DER
-FILE       a file in DER or, except for timestamp, in PEM with blocks of this kind only
+FILE       a file in DER or, except for timestamp, in PEM with blocks of this kind only (for
+           anchors: certificates)
 STREAM     certificates in DER or PEM, one after another; the first is the one that an anchor signed
 --limit    the most bytes that a certificate of STREAM may have: 6 to 4294967295 (default 65536)
 --json     prints a document of JSON instead of lines
@@ -145,9 +147,10 @@ Exit status:
   0  everything was written and, for verify, the chain is trusted
   1  verify rejects the chain, explain chain finds that a check of --host or --strict fails, or
      --fail-on-remark found something
-  2  the input is malformed (explain KIND and explain stream: only if its PEM is)
+  2  the input is malformed (explain KIND and explain stream: only if its PEM can't be used)
   3  the stream is empty (explain stream returns 0)
-  4  arguments, trust anchors or answers are wrong (explain anchors: arguments, or damaged PEM)
+  4  arguments, trust anchors or answers are wrong (explain anchors: arguments, or PEM that can't
+     be used)
   5  an I/O error
   6  memory ran out
   7  a trusted chain ends soon (--warn-days)

@@ -1,6 +1,7 @@
 //! JSON strings (RFC 8259 7).
 
 ghost use Rattle.std.specs.Prelude.{◌≡◌, ◌<◌, ◌^◌, ◌++◌, IfOk, OnOk, string_bytes};
+ghost use Rattle.std.specs.List.{list_all};
 ghost use Rattle.cert_tool.specs.JsonTexts.{is_plain, unit_escape, letter_text};
 ghost use Rattle.cert_tool.specs.JsonTexts.{letter_escape, escaped_text, place_object};
 
@@ -11,6 +12,13 @@ fn is_plain(letter: char) -> bool
     ensures { result ≡ is_plain letter }
 {
     letter > '\x1f' && letter < '\x7f' && letter != '"' && letter != '\\'
+}
+
+// Returns whether no byte of a text needs an escape.
+fn is_plain_text(text: &[u8]) -> bool
+    ensures { result ≡ list_all is_plain text.now }
+{
+    text.iter().all(|octet| is_plain(char::from(*octet)))
 }
 
 // Returns the escape of a UTF-16 code unit.
@@ -44,8 +52,7 @@ fn add_letter(alloc: Global, text: &mut String, letter: char) -> Result<(), Allo
     ensures { OnOk result (string_bytes text.new ≡ string_bytes text.old ++ letter_text letter) }
 {
     if is_plain(letter) {
-        write!(text, "{letter}")?;
-        return Ok(());
+        return text.push(letter);
     }
     let escape = letter_escape(alloc, letter)?;
     text.push_str(escape.as_str())?;
@@ -58,6 +65,9 @@ fn add_letter(alloc: Global, text: &mut String, letter: char) -> Result<(), Allo
 pub(crate) fn escaped_text(alloc: Global, text: &str) -> Result<String, AllocError>
     ensures { IfOk result (λ escaped. string_bytes escaped ≡ escaped_text text.now) }
 {
+    if is_plain_text(text.as_bytes()) {
+        return String::from_str(alloc, text);
+    }
     let mut escaped = String::new(alloc);
     for letter in text.chars() {
         add_letter(alloc, &mut escaped, letter)?;

@@ -58,7 +58,7 @@ fn main(rt: HostRuntime) -> ExitCode {
 
 // Returns the arguments without the program's name.
 fn texts_of(alloc: Global, words: &[String]) -> Result<Vec<&str>, AllocError> {
-    let mut texts = Vec::new(alloc);
+    let mut texts = Vec::with_capacity(alloc, words.len())?;
     if let [_, words @ ..] = words {
         for word in words {
             texts.push(word.as_str())?;

@@ -50,6 +50,7 @@ fn has_surplus(octets: &[u8]) -> bool
 }
 
 // Reads an input to its end, or until too many bytes follow the first value.
+#[tactic(auto, using(crate::proofs::ValueSizes::none_is_few))]
 fn read_value<I: Input>(alloc: Global, input: &mut I) -> Result<Vec<u8>, ReadAllError>
     ensures read { IfOk result (λ octets. IsValueRead
         (source I.takes I.is_ended I.failures input.old input.new) octets.items) }

@@ -3,8 +3,9 @@ ghost use Rattle.std.specs.Prelude.{◌≡◌, map, option_map, Ok};
 ghost use Rattle.std.specs.List.{after_first, before_first};
 ghost use Rattle.cert_tool.specs.ParsedArguments.{key_of, value_of, with_value, with_word, is_option};
 ghost use Rattle.cert_tool.specs.ParsedArguments.{takes_no_value, valued_key, is_equals, with_pair, step};
-ghost use Rattle.cert_tool.specs.ParsedArguments.{parse_arguments, arguments_plain, given_read, ended_by};
-ghost use Rattle.cert_tool.specs.ParsedArguments.{is_end, no_arguments, read_on, with_option};
+ghost use Rattle.cert_tool.specs.ParsedArguments.{parse_arguments, arguments_plain, given_read};
+ghost use Rattle.cert_tool.specs.ParsedArguments.{given_after, is_end, no_arguments, read_on};
+ghost use Rattle.cert_tool.specs.ParsedArguments.{with_option};
 
 /// An option.
 #[derive(Clone, Copy)]
@@ -197,132 +198,117 @@ impl<'a> ParsedArguments<'a> {
         }
     }
 
-    // Returns the arguments with this value of an option, and without an awaited option.
-    fn with_value(&self, key: Key, text: &'a str) -> ParsedArguments<'a>
-        ensures { arguments_plain result ≡ with_value key text.now (arguments_plain self.now) }
+    // Sets the value of an option, and awaits none.
+    fn set_value(&mut self, key: Key, text: &'a str)
+        ensures { arguments_plain self.new ≡ with_value key text.now (arguments_plain self.old) }
     {
-        let mut given = *self;
-        given.awaited = None;
+        self.awaited = None;
         let text = Some(text);
         match key {
-            Key::Anchors => given.anchors = text,
-            Key::Answers => given.answers = text,
-            Key::At => given.at = text,
-            Key::Purpose => given.purpose = text,
-            Key::Limit => given.limit = text,
-            Key::Place => given.place = text,
-            Key::Json => given.json = text,
-            Key::Digests => given.digests = text,
-            Key::LeafFirst => given.leaf_first = text,
-            Key::Strict => given.strict = text,
-            Key::Host => given.host = text,
-            Key::WarnDays => given.warn_days = text,
-            Key::FailOnRemark => given.fail_on_remark = text,
+            Key::Anchors => self.anchors = text,
+            Key::Answers => self.answers = text,
+            Key::At => self.at = text,
+            Key::Purpose => self.purpose = text,
+            Key::Limit => self.limit = text,
+            Key::Place => self.place = text,
+            Key::Json => self.json = text,
+            Key::Digests => self.digests = text,
+            Key::LeafFirst => self.leaf_first = text,
+            Key::Strict => self.strict = text,
+            Key::Host => self.host = text,
+            Key::WarnDays => self.warn_days = text,
+            Key::FailOnRemark => self.fail_on_remark = text,
         }
-        given
     }
 
-    // Returns the arguments with one more word, which is neither an option nor a value.
-    fn with_word(&self, word: &'a str) -> Result<ParsedArguments<'a>, ArgumentError<'a>>
-        ensures { given_read result ≡ with_word (arguments_plain self.now).first
-            (arguments_plain self.now).second (arguments_plain self.now).third word.now
-            (arguments_plain self.now) }
+    // Adds a word, which is neither an option nor a value.
+    fn add_word(&mut self, word: &'a str) -> Result<(), ArgumentError<'a>>
+        ensures { given_after result self.new ≡ with_word (arguments_plain self.old).first
+            (arguments_plain self.old).second (arguments_plain self.old).third word.now
+            (arguments_plain self.old) }
     {
-        let mut given = *self;
         if self.first.is_none() {
-            given.first = Some(word);
+            self.first = Some(word);
         } else if self.second.is_none() {
-            given.second = Some(word);
+            self.second = Some(word);
         } else if self.third.is_none() {
-            given.third = Some(word);
+            self.third = Some(word);
         } else {
             return Err(ArgumentError::Surplus(word));
         }
-        Ok(given)
+        Ok(())
     }
 
-    // Returns the arguments with an option that has its value after `=`. Any other text is an
-    // unknown option.
-    fn with_pair(&self, word: &'a str) -> Result<ParsedArguments<'a>, ArgumentError<'a>>
-        ensures { given_read result ≡ with_pair (valued_key (before_first is_equals word.now))
-            word.now (arguments_plain self.now) }
+    // Adds an option that has its value after `=`. Any other text is an unknown option.
+    fn add_pair(&mut self, word: &'a str) -> Result<(), ArgumentError<'a>>
+        ensures { given_after result self.new ≡ with_pair
+            (valued_key (before_first is_equals word.now)) word.now (arguments_plain self.old) }
     {
         let (name, value) = parts_of(word);
         if let Some(key) = valued_key(name) {
             if self.value_of(key).is_some() {
                 return Err(ArgumentError::Twice(key));
             }
-            return Ok(self.with_value(key, value));
+            self.set_value(key, value);
+            return Ok(());
         }
         Err(ArgumentError::Unknown(word))
     }
 
-    // Returns the arguments with an argument that begins with two dashes: `--`, or an option.
-    fn with_option(&self, word: &'a str) -> Result<ParsedArguments<'a>, ArgumentError<'a>>
-        ensures { given_read result ≡ with_option word.now (arguments_plain self.now) }
+    // Adds an argument that begins with two dashes: `--`, or an option.
+    fn add_option(&mut self, word: &'a str) -> Result<(), ArgumentError<'a>>
+        ensures { given_after result self.new ≡ with_option word.now (arguments_plain self.old) }
     {
         if is_end(word) {
-            return Ok(ParsedArguments {
-                is_ended: true,
-                ..*self
-            });
+            self.is_ended = true;
+            return Ok(());
         }
         if let Some(key) = key_of(word) {
             if self.value_of(key).is_some() {
                 return Err(ArgumentError::Twice(key));
             }
             if takes_no_value(key) {
-                return Ok(self.with_value(key, word));
+                self.set_value(key, word);
+                return Ok(());
             }
-            return Ok(ParsedArguments {
-                awaited: Some(key),
-                ..*self
-            });
+            self.awaited = Some(key);
+            return Ok(());
         }
-        self.with_pair(word)
+        self.add_pair(word)
     }
 
     // Parses one more argument.
-    fn step(&self, word: &'a str) -> Result<ParsedArguments<'a>, ArgumentError<'a>>
-        ensures { given_read result ≡ step (arguments_plain self.now) word.now }
+    fn add(&mut self, word: &'a str) -> Result<(), ArgumentError<'a>>
+        ensures { given_after result self.new ≡ step (arguments_plain self.old) word.now }
     {
         if let Some(key) = self.awaited {
-            return Ok(self.with_value(key, word));
+            self.set_value(key, word);
+            return Ok(());
         }
         if self.is_ended {
-            return self.with_word(word);
+            return self.add_word(word);
         }
         if is_option(word) {
-            return self.with_option(word);
+            return self.add_option(word);
         }
-        self.with_word(word)
+        self.add_word(word)
     }
 
-    // Returns the arguments, or the error for an option whose value is missing at the end.
-    fn ended(&self) -> Result<ParsedArguments<'a>, ArgumentError<'a>>
-        ensures { given_read result ≡ ended_by self.now.awaited (arguments_plain self.now) }
+    // Parses more arguments.
+    fn add_all(&mut self, words: &[&'a str]) -> Result<(), ArgumentError<'a>>
+        ensures { given_after result self.new
+            ≡ read_on (Ok (arguments_plain self.old)) (map (λ word. word.now) words.now) }
     {
-        match self.awaited {
-            Some(key) => Err(ArgumentError::NoValue(key)),
-            None => Ok(*self),
+        let [word, rest @ ..] = words else {
+            return match self.awaited {
+                Some(key) => Err(ArgumentError::NoValue(key)),
+                None => Ok(()),
+            };
+        };
+        match self.add(word) {
+            Ok(()) => self.add_all(rest),
+            Err(fault) => Err(fault),
         }
-    }
-}
-
-// Parses more arguments.
-fn read_on<'a>(
-    given: &ParsedArguments<'a>,
-    words: &[&'a str],
-) -> Result<ParsedArguments<'a>, ArgumentError<'a>>
-    ensures read { given_read result
-        ≡ read_on (Ok (arguments_plain given.now)) (map (λ word. word.now) words.now) }
-{
-    let [word, rest @ ..] = words else {
-        return given.ended();
-    };
-    match given.step(word) {
-        Ok(next) => read_on(&next, rest),
-        Err(fault) => Err(fault),
     }
 }
 
@@ -333,5 +319,9 @@ pub(crate) fn parse_arguments<'a>(
 ) -> Result<ParsedArguments<'a>, ArgumentError<'a>>
     ensures read { given_read result ≡ parse_arguments (map (λ word. word.now) words.now) }
 {
-    read_on(&no_arguments(), words)
+    let mut given = no_arguments();
+    match given.add_all(words) {
+        Ok(()) => Ok(given),
+        Err(fault) => Err(fault),
+    }
 }

@@ -18,7 +18,7 @@ abbrev pub TakesFrom : {R : Type 0} → (R → List ℕ → R → Type 0) → Li
     → List ℕ → Option R → Type 0
 TakesFrom takes front None octets back None = front ≡ octets ++ back
 TakesFrom {R} takes front (Some old) octets back (Some new) =
-    ((front ≡ octets ++ back) × (new ≡ old))
+    ((front ≡ octets ++ back) × takes old [] new)
     ⊎ ((more : List ℕ) × (octets ≡ front ++ more) × (back ≡ []) × takes old more new)
 TakesFrom takes front _ octets back _ = ⊥
 
@@ -57,12 +57,13 @@ both_empty [] second e = (refl, e)
 both_empty (x ∷ first) second e = absurd (subst is_nonempty e tt)
 
 module _ {R : Type 0} (takes : R → List ℕ → R → Type 0) where
-  nothing_from : (front : List ℕ) (rest : Option R) → TakesFrom takes front rest [] front rest
-  nothing_from front None = refl
-  nothing_from front (Some rest) = inl (refl, refl)
+  module _ (nothing : (a : R) → takes a [] a) where
+    nothing_from : (front : List ℕ) (rest : Option R) → TakesFrom takes front rest [] front rest
+    nothing_from front None = refl
+    nothing_from front (Some rest) = inl (refl, nothing rest)
 
-  pub takes_nothing : (a : FileInput R) → Takes takes a [] a
-  takes_nothing a = nothing_from (front_of a) (rest_of a)
+    pub takes_nothing : (a : FileInput R) → Takes takes a [] a
+    takes_nothing a = nothing_from (front_of a) (rest_of a)
 
   module _ (in_turn : (a b c : R) (first second : List ℕ) → takes a first b → takes b second c
       → takes a (first ++ second) c) where
@@ -72,13 +73,16 @@ module _ {R : Type 0} (takes : R → List ℕ → R → Type 0) where
     in_turn_from f g h None None None first second p q =
         p ∙ ap (λ x. first ++ x) q ∙ sym (append_assoc first second h)
     in_turn_from f g h (Some a) (Some b) (Some c) first second (inl p) (inl q) =
-        inl (p.0 ∙ ap (λ x. first ++ x) q.0 ∙ sym (append_assoc first second h), q.1 ∙ p.1)
+        inl (
+          p.0 ∙ ap (λ x. first ++ x) q.0 ∙ sym (append_assoc first second h),
+          in_turn a b c [] [] p.1 q.1,
+        )
     in_turn_from f g h (Some a) (Some b) (Some c) first second (inl p) (inr q) =
         inr (
           q.0,
           ap (λ x. first ++ x) q.1 ∙ sym (append_assoc first g q.0) ∙ ap (λ x. x ++ q.0) (sym p.0),
           q.2,
-          subst (λ x. takes x q.0 c) p.1 q.3,
+          in_turn a b c [] q.0 p.1 q.3,
         )
     in_turn_from f g h (Some a) (Some b) (Some c) first second (inr p) (inl q) =
         let none = both_empty second h (sym q.0 ∙ p.2) in
@@ -86,7 +90,7 @@ module _ {R : Type 0} (takes : R → List ℕ → R → Type 0) where
           p.0,
           ap (λ x. first ++ x) none.0 ∙ append-nil first ∙ p.1,
           none.1,
-          subst (λ x. takes a p.0 x) (sym q.1) p.3,
+          subst (λ x. takes a x c) (append-nil p.0) (in_turn a b c p.0 [] p.3 q.1),
         )
     in_turn_from f g h (Some a) (Some b) (Some c) first second (inr p) (inr q) =
         inr (

@@ -1,5 +1,5 @@
 //! An input of bytes in memory that are followed by another input.
-ghost use Rattle.std.specs.Prelude.{◌≡◌, ◌≤◌, length, option_map};
+ghost use Rattle.std.specs.Prelude.{◌≡◌, ◌+◌, ◌<◌, ◌≤◌, ◌++◌, drop, length, option_map, take};
 
 use cert_desk_io::{DeviceError, Input};
 
@@ -43,6 +43,21 @@ impl<I> FileInput<I> {
     {
         self.rest.as_ref()
     }
+
+    // Copies the next bytes in memory to the start of a buffer, and returns their number.
+    fn copy_front(&self, buffer: &mut [u8]) -> usize
+        ensures len { length buffer.new ≡ length buffer.old }
+        ensures room { result ≤ length buffer.new }
+        ensures within { result ≤ length (front_of self.now) }
+        ensures all { result < length buffer.new → result ≡ length (front_of self.now) }
+        ensures copied { front_of self.now
+            ≡ take result buffer.new ++ drop (self.now.taken + result) self.now.front.items }
+    {
+        let left = &self.front[self.taken..];
+        let count = left.len().min(buffer.len());
+        buffer[..count].copy_from_slice(&left[..count]);
+        count
+    }
 }
 
 impl<I: Input> Input for FileInput<I> {
@@ -56,23 +71,24 @@ impl<I: Input> Input for FileInput<I> {
     ghost failures = { λ a. failures_of I.failures a };
 
     fn read(&mut self, buffer: &mut [u8]) -> Result<usize, DeviceError> {
-        let left = &self.front[self.taken..];
-        if !left.is_empty() {
-            let count = left.len().min(buffer.len());
-            buffer[..count].copy_from_slice(&left[..count]);
+        let count = self.copy_front(buffer);
+        if count == buffer.len() {
             self.taken += count;
             self.has_ended = false;
             return Ok(count);
         }
         let Some(rest) = &mut self.rest else {
-            self.has_ended = true;
-            return Ok(0);
+            self.taken += count;
+            self.has_ended = count == 0;
+            return Ok(count);
         };
-        match rest.read(buffer) {
-            Ok(count) => {
-                self.has_ended = count == 0;
-                Ok(count)
+        match rest.read(&mut buffer[count..]) {
+            Ok(more) => {
+                self.taken += count;
+                self.has_ended = count + more == 0;
+                Ok(count + more)
             }
+            // The bytes in memory aren't taken: the next read returns them.
             Err(error) => {
                 self.has_ended = false;
                 Err(error)
@@ -80,7 +96,7 @@ impl<I: Input> Input for FileInput<I> {
         }
     }
 
-    ghost takes_nothing = { λ a. takes_nothing I.takes a };
+    ghost takes_nothing = { λ a. takes_nothing I.takes I.takes_nothing a };
 
     ghost takes_in_turn = { λ a b c first second.
         takes_in_turn I.takes I.takes_in_turn a b c first second };
