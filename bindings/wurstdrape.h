@@ -93,7 +93,7 @@ enum {
     WD_ORDER_NAME = 22,            /* the name can't be parsed */
     WD_ORDER_ROOT_NAME = 23,       /* the name isn't allowed for a root */
     WD_ORDER_SUBSCRIBER_NAME = 24, /* the name isn't allowed for an end entity */
-    WD_ORDER_SERIAL = 25,          /* the serial number has no bytes, or more than 20 */
+    WD_ORDER_SERIAL = 25,          /* the serial number has no bytes, or more than 20 in DER */
     WD_ORDER_DATES = 26,           /* a date is invalid, or notAfter is before notBefore */
     WD_ORDER_DNS_NAME = 27,        /* an end entity has no DNS name, or one that isn't ASCII */
     WD_ORDER_TOO_LONG = 28         /* a length exceeds 2^32 - 1 */
@@ -113,8 +113,8 @@ enum {
 };
 
 /* The kinds of decoding errors, in `kind` of a wd_fault. docs/ENCODING.md says which bytes cause
-   which of them. ENCODING_RULES, FAILED, OID_UNKNOWN, OUT_OF_MEMORY, READER and TAG_MODE_UNKNOWN
-   aren't errors of bytes. */
+   which of them. DATE_TIME, ENCODING_RULES, FAILED, OID_UNKNOWN, OUT_OF_MEMORY, READER and
+   TAG_MODE_UNKNOWN aren't errors of bytes: for example, a wrong date is VALUE. */
 enum {
     WD_FAULT_DATE_TIME = 1,
     WD_FAULT_ENCODING_RULES = 2,

@@ -10,14 +10,19 @@ isn't proved. It is installed as cert_tool_answer.
 Signatures: RSASSA-PKCS1-v1_5 and RSASSA-PSS (RFC 8017, RFC 4055), ECDSA over named curves
 (RFC 5480, RFC 5758), Ed25519 and Ed448 (RFC 8410). A line isn't copied if its signature is invalid,
 or if its algorithm, parameters or key are unknown, malformed or contradictory. The error output
-gives the number of the line and the reason.
+gives the number of the line, the index of the certificate in the chain, and the reason. Index 0 is
+the certificate that a trust anchor issued.
 
-The status is 0 if all lines were read, even if no signature is valid, and 2 if `cryptography` isn't
-installed or there is an argument.
+The status is 0 if all lines were read, even if no signature is valid; 2 if `cryptography` isn't
+installed or there is an argument; and 5 if the questions can't be read or the answers can't be
+written. With status 5, the answers are incomplete.
 """
+
+from __future__ import annotations
 
 import argparse
 import dataclasses
+import os
 import sys
 
 try:
@@ -266,6 +271,12 @@ def refusal(line):
     return None
 
 
+def place_in(line):
+    """Returns the words for the certificate whose signature a line is about."""
+    place = line.decode("ascii", "replace").partition(" ")[0]
+    return f", certificate {place}" if place.isdigit() else ""
+
+
 def main():
     form = argparse.RawDescriptionHelpFormatter
     argparse.ArgumentParser(description=__doc__, formatter_class=form).parse_args()
@@ -274,8 +285,14 @@ def main():
         if why is None:
             sys.stdout.buffer.write(line)
         else:
-            print(f"{NAME}: line {number}: {why}", file=sys.stderr)
+            print(f"{NAME}: line {number}{place_in(line)}: {why}", file=sys.stderr)
+    sys.stdout.flush()
 
 
 if __name__ == "__main__":
-    main()
+    try:
+        main()
+    except OSError as why:
+        print(f"{NAME}: {why}", file=sys.stderr)
+        # `sys.exit` would write the rest of the answers again, and end with another status.
+        os._exit(5)

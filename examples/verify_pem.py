@@ -12,14 +12,19 @@ CHAIN        the server's certificate first, followed by each issuer in turn
 --warn-days  the status is 7 if a trusted chain ends within this number of days
 --at         the validation time: `now` (default), a date such as 2026-09-21T14:13:20Z, or seconds
              since 1970
---purpose    the key purpose: serverAuth (default), or another that `cert_tool verify --help` lists
+--purpose    the key purpose: serverAuth (default), another that `cert_tool verify --help` lists, or
+             an OID
 --tool       the program `cert_tool` (default: beside this script, or built in this repository)
 
 ROOTS or CHAIN, but not both, can be `-`, standard input. Text and blocks without certificates, such
 as a private key, are ignored. Host names are checked only with --host, and revocation isn't
 checked. Name constraints and policies are ignored; if they are critical, the chain is rejected.
 Signatures with SHA-1 are accepted. The script isn't proved. It is installed as
-cert_tool_verify_pem.
+cert_tool_verify_pem. This validates the chain that a server sends:
+
+    openssl s_client -connect desk.example:443 -servername desk.example -showcerts \\
+        </dev/null 2>/dev/null \\
+        | verify_pem.py /etc/ssl/certs/ca-certificates.crt - --host desk.example
 
 The first certificate of CHAIN is always the one that is validated. Each certificate must be the
 issuer of the one before it. The chain ends with the first certificate whose issuer has the name of
@@ -29,30 +34,40 @@ byte.
 
 The script reverses the chain, runs `cert_tool questions`, verifies the signatures with answer.py
 (installed as cert_tool_answer), and runs `cert_tool verify`. If the chain isn't trusted, it also
-prints what `cert_tool explain chain` reports. In the lines of `cert_tool`, index 0 is the
-certificate that a root issued. The messages of the script count the certificates of the file from
-1.
+prints what `cert_tool explain chain` reports. In the lines of `cert_tool` and of the verifier,
+index 0 is the certificate that a root issued. The messages of the script count the certificates of
+the file from 1. If several roots have the same name, the verifier can report a signature at index 0
+although the chain is trusted, because another root's key issued the certificate.
 
 Exit status:
 0  the chain is trusted
 1  the chain breaks a rule, or a stricter check of --host or --strict
 2  a certificate of CHAIN can't be decoded, or has more than 65536 bytes
 4  an argument is wrong; ROOTS or CHAIN has no certificate (a server that can't be reached sends
-   none), a damaged one, or one in another form, such as PKCS #7; ROOTS has one that can't be
-   decoded; or CHAIN is in another order
-5  a file can't be read or written, or `cert_tool` or Python's `cryptography` can't be run
+   none); a block of ROOTS or CHAIN isn't PEM, or has certificates in another form, such as PKCS #7;
+   a certificate of ROOTS can't be decoded; or CHAIN is in another order
+5  a file can't be read or written, or `cert_tool` or a module of Python, such as `cryptography`,
+   can't be run
 6  memory ran out in `cert_tool`
 7  the chain is trusted, and ends within the days of --warn-days
 """
 
-import argparse
-import json
-import pathlib
-import ssl
-import subprocess
 import sys
-import tempfile
-import traceback
+
+# Python ends with status 1 after an exception, which would be a verdict here.
+try:
+    import argparse
+    import base64
+    import itertools
+    import json
+    import pathlib
+    import re
+    import subprocess
+    import tempfile
+    import traceback
+except ImportError as why:
+    print(f"{sys.argv[0]}: {why}", file=sys.stderr)
+    sys.exit(5)
 
 HERE = pathlib.Path(__file__).resolve().parent
 # If this script is installed, the program and the verifier are in its folder.
@@ -60,6 +75,8 @@ TOOLS = HERE / "cert_tool", HERE.parent / "crates/cert_tool/out/cert_tool"
 VERIFIERS = HERE / "cert_tool_answer", HERE / "answer.py"
 TRUSTED, REFUSED, FAULTY, ARGUMENTS, DEVICE, MEMORY, ENDING = 0, 1, 2, 4, 5, 6, 7
 NAME = pathlib.Path(sys.argv[0]).name
+# The size limit of `cert_tool` for a certificate, in bytes.
+LIMIT = 65536
 # The labels of a certificate in PEM (RFC 7468 5).
 LABELS = "CERTIFICATE", "X509 CERTIFICATE"
 # What converts blocks that hold certificates in another form.
@@ -98,12 +115,17 @@ def holds_certificates(label):
 def certificate_in(file, number, label, block):
     """Returns the encoding of the certificate in this block, which begins after the BEGIN line."""
     inside, footer, _ = block.partition(f"-----END {label}-----")
+    if not footer:
+        stop(ARGUMENTS, f"{file}: certificate {number} isn't PEM: its END line is missing")
+    # White space at either end of a line is ignored, as `cert_tool` does.
+    text = "".join(line.strip(" \t\r") for line in inside.split("\n"))
     try:
-        if not footer:
-            raise ValueError("its END line is missing")
-        return ssl.PEM_cert_to_DER_cert(ssl.PEM_HEADER + inside + ssl.PEM_FOOTER)
-    except ValueError as why:
-        stop(ARGUMENTS, f"{file}: certificate {number} isn't PEM: {why}")
+        octets = base64.b64decode(text, validate=True)
+    except ValueError:
+        octets = b""
+    if base64.b64encode(octets).decode() != text:
+        stop(ARGUMENTS, f"{file}: certificate {number} isn't PEM: it isn't base64")
+    return octets
 
 
 def certificates(file):
@@ -114,12 +136,18 @@ def certificates(file):
         stop(DEVICE, f"cannot read {file}: {why.strerror}")
     found = []
     for block in text.split("-----BEGIN ")[1:]:
-        label, _, inside = block.partition("-----")
+        label, dashes, _ = block.partition("\n")[0].partition("-----")
+        if not dashes and holds_certificates(label):
+            why = f"certificate {len(found) + 1} isn't PEM: its BEGIN line is damaged"
+            stop(ARGUMENTS, f"{file}: {why}")
         if label in LABELS:
+            inside = block.removeprefix(label + dashes)
             found.append(certificate_in(file, len(found) + 1, label, inside))
         elif holds_certificates(label):
             step = CONVERTERS.get(label, "")
             stop(ARGUMENTS, f"{file}: a {printable(label)} block can't be read{step}")
+    if not found and file == "-":
+        stop(ARGUMENTS, "standard input: there is no certificate in PEM (did the server answer?)")
     if not found:
         stop(ARGUMENTS, f"{file}: there is no certificate in PEM")
     return found
@@ -162,11 +190,12 @@ class Certificate:
 
 
 class Run:
-    """Runs of the program over files of one folder."""
+    """Runs of the program over files of one folder. `roots` are the certificates of `file`."""
 
-    def __init__(self, tool, folder):
-        self.tool = tool
-        self.folder = folder
+    def __init__(self, tool, folder, file, roots):
+        self.tool, self.folder = tool, folder
+        self.file, self.roots = file, roots
+        self.write("anchors.der", b"".join(roots))
 
     def write(self, name, octets):
         (self.folder / name).write_bytes(octets)
@@ -178,9 +207,12 @@ class Run:
             stop(DEVICE, f"cannot run {self.tool}: {why.strerror}")
 
     def read(self, file, encodings):
-        """Returns the certificates of a file. Stops at the first that can't be decoded."""
+        """Returns the certificates of a file. Stops at the first that is too large or can't be
+        decoded."""
         chain = []
         for number, octets in enumerate(encodings, 1):
+            if len(octets) > LIMIT:
+                stop(FAULTY, f"{file}: certificate {number} has more than {LIMIT} bytes")
             self.write("certificate.der", octets)
             described = self.tool_says("describe", "certificate", "--json", "certificate.der")
             if described.returncode == FAULTY:
@@ -212,11 +244,22 @@ class Run:
                 break
         return asked.stdout, count
 
+    def tell_root(self, explained):
+        """Prints which root can't be decoded, by its number in the file."""
+        # `cert_tool` 1.0.0 says `no trust anchor`.
+        found = re.search(rb"anchor at octet ([0-9]+): no(t a)? trust anchor", explained)
+        if found:
+            ends = itertools.accumulate(map(len, self.roots))
+            number = 1 + sum(end <= int(found[1]) for end in ends)
+            print(f"{NAME}: {self.file}: certificate {number} can't be decoded", file=sys.stderr)
+
     def end_as(self, said, faulty):
         """Ends with the status of a run that failed, and explains the file that caused it."""
         # The error output names files of a temporary folder, so it isn't printed.
         words = faulty.get(said.returncode)
-        pass_on(self.tool_says("explain", *words) if words else said)
+        told = self.tool_says("explain", *words) if words else said
+        self.tell_root(told.stdout)
+        pass_on(told)
         if not words and said.returncode != MEMORY:
             status = said.returncode
             how = f"ended with status {status}" if status >= 0 else f"was ended by signal {-status}"
@@ -252,16 +295,21 @@ def tell_left_out(chain, count):
     """Prints each certificate that is ignored."""
     last = chain[count - 1]
     for certificate in chain[count:]:
-        why = f"{last} was issued by the root {last.issuer_text}"
+        why = f"{last} names the root {last.issuer_text} as its issuer"
         print(f"{NAME}: ignored {certificate}: {why}", file=sys.stderr)
 
 
 def tell_end(chain, count, printed):
-    """Prints when the certificate ends that the line `ends PLACE` is about, unless a root ends."""
+    """Prints which certificate the line `ends PLACE DATE` is about, or which root `ends anchor`."""
+    last = chain[count - 1]
     place = next(line.split()[1] for line in printed.splitlines() if line.startswith(b"ends "))
     if place.isdigit():
         ending = chain[count - 1 - int(place)]
-        print(f"{NAME}: {ending} is valid until {ending.not_after}", file=sys.stderr)
+        told = f"{ending} is valid until {ending.not_after}"
+    else:
+        which = f"every root {last.issuer_text} that issued {last}"
+        told = f"{which} ends within the days of --warn-days"
+    print(f"{NAME}: {told}", file=sys.stderr)
 
 
 def pass_on(said):
@@ -280,7 +328,10 @@ def arguments():
     parser.add_argument("--at", default="now", metavar="TIME")
     parser.add_argument("--purpose", default="serverAuth")
     parser.add_argument("--tool", default=there(TOOLS), metavar="CERT_TOOL")
-    return parser.parse_args()
+    words = parser.parse_args()
+    if words.roots == words.chain == "-":
+        parser.error("only one of ROOTS and CHAIN can be -")
+    return words
 
 
 def verify(run, words, chain, count):
@@ -310,8 +361,7 @@ def main():
         stop(DEVICE, f"{tool} not found: install cert_tool, or give its path with --tool")
     roots, encodings = certificates(words.roots), certificates(words.chain)
     with tempfile.TemporaryDirectory() as folder:
-        run = Run(tool, pathlib.Path(folder))
-        run.write("anchors.der", b"".join(roots))
+        run = Run(tool, pathlib.Path(folder), words.roots, roots)
         chain = run.read(words.chain, encodings)
         questions, count = run.asked(chain)
         compare_order(words.chain, chain, count)
@@ -321,7 +371,6 @@ def main():
 
 
 if __name__ == "__main__":
-    # Python ends with status 1 after an exception, which would be a verdict here.
     try:
         main()
     except OSError as why:

@@ -1,6 +1,6 @@
 #!/usr/bin/env python3
-"""Tests `verify_pem.py` over files in which certificates are forged, missing or in another order,
-over files with other blocks, and with programs that aren't `cert_tool`.
+"""Tests `verify_pem.py` over files in which certificates are forged, missing, damaged, too large or
+in another order, over files with other blocks, and with programs that aren't `cert_tool`.
 
     examples/verify_pem_test.py CERT_TOOL    the status is 1 if a result differs
 
@@ -11,6 +11,7 @@ that need one are skipped.
 import base64
 import importlib.util
 import itertools
+import os
 import pathlib
 import ssl
 import subprocess
@@ -36,11 +37,24 @@ FORGED = changed(LEAF)
 TRUSTED = 'trusted calls=2 "CN=desk.example"'
 # A certificate with other names.
 UNRELATED = LEAF.replace(b"esk", b"usk")
+# More bytes than a certificate may have.
+LARGE = b"\x30\x83\x01\x00\x00" + bytes(65536)
+# The root with another RSA modulus, and with an earlier end. (Signatures of roots aren't verified.)
+MODULUS = ROOT.index(bytes.fromhex("2a864886f70d010101")) + 100
+OTHER_ROOT = ROOT[:MODULUS] + bytes([ROOT[MODULUS] ^ 1]) + ROOT[MODULUS + 1 :]
+EARLY_ROOT = ROOT.replace(b"360101000000Z", b"261001000000Z")
 
 
 def block(label, octets=b"\x30\x03\x02\x01\x00"):
     text = base64.b64encode(octets).decode()
     return f"-----BEGIN {label}-----\n{text}\n-----END {label}-----\n"
+
+
+def damaged(old, new):
+    """Returns the block of the intermediate certificate with another text."""
+    whole = block("CERTIFICATE", INTERMEDIATE)
+    assert whole.count(old) == 1
+    return whole.replace(old, new)
 
 
 # The name of the test, the certificates of the file or other text, the expected status, the first
@@ -49,11 +63,12 @@ CASES = [
     ("leaf first", [LEAF, INTERMEDIATE], 0, [TRUSTED], []),
     ("the root at the end", [LEAF, INTERMEDIATE, ROOT], 0, [TRUSTED],
      ["verify_pem.py: ignored certificate 3 (CN=Desk Root,O=Desk Example,C=US): certificate 2"
-      " (CN=Desk Intermediate,O=Desk Example,C=US) was issued by the root"
-      " CN=Desk Root,O=Desk Example,C=US\n"]),
+      " (CN=Desk Intermediate,O=Desk Example,C=US) names the root"
+      " CN=Desk Root,O=Desk Example,C=US as its issuer\n"]),
     ("two issuers of one name", [LEAF, INTERMEDIATE, ROOT, changed(ROOT)], 0, [TRUSTED],
      ["ignored certificate 3 (CN=Desk Root,", "ignored certificate 4 (CN=Desk Root,"]),
-    ("the leaf forged", [FORGED, INTERMEDIATE], 1, ["refused 1 WrongSignature calls=2"], []),
+    ("the leaf forged", [FORGED, INTERMEDIATE], 1, ["refused 1 WrongSignature calls=2"],
+     ["answer.py: line 2, certificate 1: the signature is invalid\n"]),
     ("the leaf forged, the root at the end", [FORGED, INTERMEDIATE, ROOT], 1,
      ["refused 1 WrongSignature calls=2"], ["ignored certificate 3 (CN=Desk Root,"]),
     ("no intermediate", [LEAF], 1, ["refused 0 WrongIssuer calls=0"], []),
@@ -70,6 +85,13 @@ CASES = [
     ("an unrelated one last", [LEAF, INTERMEDIATE, UNRELATED], 4, [], ["isn't the issuer of"]),
     ("two in one block", [LEAF + INTERMEDIATE], 2, None, ["certificate 1 can't be decoded"]),
     ("one that is cut", [LEAF, INTERMEDIATE[:-1]], 2, None, ["certificate 2 can't be decoded"]),
+    ("the first too large", [LARGE, LEAF, INTERMEDIATE], 2, [],
+     ["chain.pem: certificate 1 has more than 65536 bytes\n"]),
+    ("the second too large", [LEAF, LARGE, INTERMEDIATE], 2, [],
+     ["chain.pem: certificate 2 has more than 65536 bytes\n"]),
+    ("the last too large", [LEAF, INTERMEDIATE, LARGE], 2, [],
+     ["chain.pem: certificate 3 has more than 65536 bytes\n"]),
+    ("the largest size", [LEAF, LARGE[:65536]], 2, None, ["certificate 2 can't be decoded"]),
     ("none", [], 4, [], ["there is no certificate in PEM"]),
     ("only a private key", [block("PRIVATE KEY")], 4, [], ["there is no certificate in PEM"]),
     ("a private key between", [LEAF, block("PRIVATE KEY"), INTERMEDIATE], 0, [TRUSTED], []),
@@ -86,8 +108,32 @@ CASES = [
     ("a CSR first", [block("CERTIFICATE REQUEST"), LEAF, INTERMEDIATE], 0, [TRUSTED], []),
     ("a message first", [block("PKCS7"), LEAF, INTERMEDIATE], 4, [],
      ["a PKCS7 block can't be read; `openssl pkcs7"]),
+    ("four dashes at the end of a BEGIN line",
+     [LEAF, damaged("CERTIFICATE-----\nM", "CERTIFICATE----\nM"), LEAF], 4, [],
+     ["chain.pem: certificate 2 isn't PEM: its BEGIN line is damaged\n"]),
+    ("no dashes at the end of the first BEGIN line",
+     [damaged("CERTIFICATE-----\nM", "CERTIFICATE\nM"), LEAF], 4, [],
+     ["chain.pem: certificate 1 isn't PEM: its BEGIN line is damaged\n"]),
+    ("a BEGIN line that is the end of the file", [LEAF, "-----BEGIN CERTIFICATE"], 4, [],
+     ["chain.pem: certificate 2 isn't PEM: its BEGIN line is damaged\n"]),
+    ("a private key with a damaged BEGIN line between",
+     [LEAF, block("PRIVATE KEY").replace("KEY-----", "KEY----", 1), INTERMEDIATE], 0, [TRUSTED],
+     []),
     ("no END line", [LEAF, block("CERTIFICATE", INTERMEDIATE).partition("-----END")[0]], 4, [],
      ["certificate 2 isn't PEM: its END line is missing"]),
+    ("another character", [LEAF, damaged("MIIC", "MII-C")], 4, [],
+     ["chain.pem: certificate 2 isn't PEM: it isn't base64\n"]),
+    ("a character that isn't ASCII", [LEAF, damaged("MIIC", "MII\xc4C")], 4, [],
+     ["certificate 2 isn't PEM: it isn't base64"]),
+    ("a blank in a line", [LEAF, damaged("MIIC", "MII C")], 4, [],
+     ["certificate 2 isn't PEM: it isn't base64"]),
+    ("a character less", [LEAF, damaged("MIIC", "MII")], 4, [],
+     ["certificate 2 isn't PEM: it isn't base64"]),
+    ("no padding", [LEAF, damaged("=\n-----END", "\n-----END")], 4, [],
+     ["certificate 2 isn't PEM: it isn't base64"]),
+    ("a header in the block", [LEAF, damaged("MIIC", "Comment: x\n\nMIIC")], 4, [],
+     ["certificate 2 isn't PEM: it isn't base64"]),
+    ("white space around lines", [LEAF, damaged("MIIC", " \r\n\t MIIC\t\r\n")], 0, [TRUSTED], []),
     ("its host", [LEAF, INTERMEDIATE], 0, [TRUSTED], [], "--host=desk.example", "--strict"),
     ("another host", [LEAF, INTERMEDIATE], 1, ["refused 1 WrongHost calls=2"], [],
      "--host=desk.test"),
@@ -96,6 +142,32 @@ CASES = [
      ["certificate 2 (CN=Desk Inter", "is valid until 2036-01-01T00:00:00Z"],
      "--warn-days=5000"),
     ("it doesn't end soon", [LEAF, INTERMEDIATE], 0, [TRUSTED], [], "--warn-days=30"),
+]
+
+# The same with other roots.
+ROOT_CASES = [
+    ("the root ends soon", [EARLY_ROOT], [LEAF, INTERMEDIATE], 7, [TRUSTED, "ends anchor"],
+     ["verify_pem.py: every root CN=Desk Root,O=Desk Example,C=US that issued certificate 2"
+      " (CN=Desk Intermediate,O=Desk Example,C=US) ends within the days of --warn-days\n"],
+     "--warn-days=30"),
+    ("two roots of one name", [OTHER_ROOT, ROOT], [LEAF, INTERMEDIATE], 0, ["trusted"],
+     ["answer.py: line 1, certificate 0: the signature is invalid\n"]),
+    ("another root of the name", [OTHER_ROOT], [LEAF, INTERMEDIATE], 1,
+     ["refused 0 WrongSignature"], ["line 1, certificate 0: the signature is invalid\n"]),
+    ("a damaged root", [damaged("MIIC", "MII-C")], [LEAF, INTERMEDIATE], 4, [],
+     ["roots.pem: certificate 1 isn't PEM: it isn't base64\n"]),
+    ("a root that is cut", [ROOT, ROOT[:-1]], [LEAF, INTERMEDIATE], 4, None,
+     ["roots.pem: certificate 2 can't be decoded\n"]),
+    ("a root with a wrong date", [ROOT.replace(b"260101", b"269901"), ROOT], [LEAF], 4, None,
+     ["roots.pem: certificate 1 can't be decoded\n"]),
+]
+
+# The name of the test, the arguments, the status, and parts of the output and of the error output.
+COMMANDS = [
+    ("standard input twice", ["-", "-"], 4, "", "only one of ROOTS and CHAIN can be -\n"),
+    ("no standard input", ["-", "missing.pem", "--tool", sys.executable], 4, "",
+     "standard input: there is no certificate in PEM (did the server answer?)\n"),
+    ("the help", ["--help"], 0, "    | verify_pem.py /etc/ssl/certs/ca-certificates.crt -", ""),
 ]
 
 
@@ -120,6 +192,11 @@ def are_begun(lines, words):
     return all(f"{line} ".startswith(f"{begin} ") for line, begin in pairs)
 
 
+def in_pem(content):
+    """Returns the block of a certificate, or the text itself."""
+    return content if isinstance(content, str) else ssl.DER_cert_to_PEM_cert(content)
+
+
 class Results:
     """The tests that passed and failed, with files in one folder."""
 
@@ -127,16 +204,22 @@ class Results:
         self.roots, self.chain, self.program = (
             pathlib.Path(folder, name) for name in ("roots.pem", "chain.pem", "program")
         )
-        self.roots.write_text(ssl.DER_cert_to_PEM_cert(ROOT))
         self.passed, self.failed = 0, 0
 
-    def run(self, content, tool, options=()):
-        self.chain.write_text(
-            "".join(it if isinstance(it, str) else ssl.DER_cert_to_PEM_cert(it) for it in content)
+    def start(self, words, **variables):
+        """Runs the script with these arguments and environment variables."""
+        return subprocess.run(
+            [sys.executable, HERE / "verify_pem.py", *words],
+            stdin=subprocess.DEVNULL,
+            capture_output=True,
+            text=True,
+            env={**os.environ, **variables},
         )
-        script = [sys.executable, HERE / "verify_pem.py", self.roots, self.chain, "--at", AT]
-        words = [*script, *options, "--tool", tool]
-        return subprocess.run(words, capture_output=True, text=True)
+
+    def run(self, content, tool, options=(), roots=(ROOT,)):
+        for path, blocks in ((self.chain, content), (self.roots, roots)):
+            path.write_text("".join(map(in_pem, blocks)), "latin-1")
+        return self.start([self.roots, self.chain, "--at", AT, *options, "--tool", tool])
 
     def add(self, name, said, agrees):
         self.passed += agrees
@@ -144,13 +227,39 @@ class Results:
         if not agrees:
             print(f"{name}: {said.returncode}, {said.stdout}{said.stderr}")
 
-    def add_case(self, tool, name, content, status, output, errors, *options):
-        said = self.run(content, tool, options)
+    def add_case(self, tool, roots, name, content, status, output, errors, *options):
+        said = self.run(content, tool, options, roots)
         # After a rejection come the lines of `explain`.
         told = said.stdout.splitlines()[: 1 if said.returncode == 1 else None]
         agrees = said.returncode == status and (output is None or are_begun(told, output))
         agrees = agrees and all(part in said.stderr for part in errors)
         self.add(name, said, agrees and (status in (0, 7) or "trusted" not in said.stdout))
+
+    def add_command(self, name, words, status, output, errors):
+        said = self.start(words)
+        agrees = said.returncode == status and output in said.stdout
+        self.add(name, said, agrees and errors in said.stderr)
+
+    def add_missing(self, module):
+        """Adds the test of a Python that lacks a module."""
+        self.program.with_name(f"{module}.py").write_text("raise ImportError('it is missing')\n")
+        said = self.start([self.roots, self.chain], PYTHONPATH=self.program.parent)
+        agrees = said.returncode == 5 and said.stderr.endswith("verify_pem.py: it is missing\n")
+        self.add(f"without {module}", said, agrees)
+
+    def add_full(self, tool):
+        """Adds the test of a verifier whose answers can't be written."""
+        words = ["questions", HERE / "chain.der", "--anchors", HERE / "root.der"]
+        asked = subprocess.run([tool, *words], stdout=subprocess.PIPE).stdout
+        with open("/dev/full", "wb") as full:
+            said = subprocess.run(
+                [sys.executable, HERE / "answer.py"],
+                input=asked,
+                stdout=full,
+                stderr=subprocess.PIPE,
+            )
+        agrees = said.stderr == b"answer.py: [Errno 28] No space left on device\n"
+        self.add("no room for the answers", said, agrees and said.returncode == 5)
 
     def add_program(self, name, text, mode, errors):
         self.program.write_text(text)
@@ -168,13 +277,21 @@ def main(words):
     verifies = importlib.util.find_spec("cryptography") is not None
     with tempfile.TemporaryDirectory() as folder:
         results = Results(folder)
-        for name, content, status, *rest in CASES:
-            if status in (0, 1, 7) and not verifies:
+        cases = [([ROOT], *case) for case in CASES]
+        cases += [(roots, name, *rest) for name, roots, *rest in ROOT_CASES]
+        for roots, name, content, status, *rest in cases:
+            # `cert_tool verify`, which also checks the options, runs after the signatures.
+            if not verifies and (status in (0, 1, 7) or len(rest) > 2):
                 print(f"{name}: skipped, because `cryptography` isn't installed")
             else:
-                results.add_case(words[0], name, content, status, *rest)
+                results.add_case(words[0], roots, name, content, status, *rest)
         for program in PROGRAMS:
             results.add_program(*program)
+        for command in COMMANDS:
+            results.add_command(*command)
+        results.add_missing("json")
+        if verifies:
+            results.add_full(words[0])
     print(f"{results.passed} tests passed, {results.failed} failed")
     return bool(results.failed)
 

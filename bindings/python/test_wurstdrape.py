@@ -9,6 +9,7 @@ import concurrent.futures
 import datetime
 import importlib.util
 import json
+import math
 import pathlib
 import re
 import sys
@@ -150,12 +151,20 @@ class Chains(unittest.TestCase):
 
     def test_times(self):
         """A time that doesn't fit is rejected, and isn't replaced by another one."""
-        early = datetime.datetime(1969, 12, 31, tzinfo=datetime.timezone.utc)
-        for at in (-1, 2**64, 2**64 + MOMENT, early):
+        epoch = datetime.datetime(1970, 1, 1, tzinfo=datetime.timezone.utc)
+        early = [epoch - datetime.timedelta(seconds=it) for it in (86400, 0.5)]
+        for at in (-1, 2**64, 2**64 + MOMENT, -0.5, math.inf, math.nan, *early):
             with self.assertRaises(ValueError):
                 wurstdrape.judge(b"", self.root, self.chain, at)
             with self.assertRaises(ValueError):
                 wurstdrape.verify(self.root, self.chain, at, verifier=lambda line: True)
+        # The last second of the validity period is 2036-01-01T00:00:00Z, and has fractions.
+        answers = wurstdrape.questions(self.root, self.chain)
+        for at, trusted in ((2082758400.5, True), (2082758401.0, False)):
+            moment = datetime.datetime.fromtimestamp(at, datetime.timezone.utc)
+            for time in (at, moment):
+                verdict = wurstdrape.judge(answers, self.root, self.chain, time)
+                self.assertIs(verdict.trusted, trusted)
         # the greatest number of seconds, which is after every notAfter
         verdict = wurstdrape.judge(b"", self.root, self.chain, 2**64 - 1)
         self.assertIs(verdict.rule, Rule.EXPIRED)
@@ -169,6 +178,7 @@ class Chains(unittest.TestCase):
         with self.assertRaises(Error) as refused:
             wurstdrape.judge(b"", self.root, self.chain, MOMENT, limit=5)
         self.assertIs(refused.exception.status, Status.ARGUMENTS)
+        self.assertIn("the limit", str(refused.exception))
 
 
 class Issued(unittest.TestCase):

@@ -1,8 +1,9 @@
 //! Calls the functions of `wurstdrape.h`, and converts their statuses to `Result`.
 //!
-//! Rust's references meet what `wurstdrape.h` requires of its caller: a slice is never a null
-//! pointer, memory behind `&mut` overlaps nothing else, and the bytes of a shared slice don't
-//! change.
+//! Rust's references meet most of what `wurstdrape.h` requires of its caller: a slice is never a
+//! null pointer, memory behind `&mut` overlaps nothing else, and the bytes of a shared slice don't
+//! change. The rest is the program's: it links one `malloc`, and calls no function from a signal
+//! handler, or in the child after `fork` if the process has several threads.
 
 use std::ops::Range;
 

@@ -1,11 +1,27 @@
 //! Decodes, prints and describes X.509 certificates (RFC 5280), CRLs and CSRs, and validates and
 //! issues certificate chains.
 //!
-//! Each function calls one function of `wurstdrape.h`, which is proved to meet its contract. The
-//! text that `describe` returns is only tested, and so are the wrappers of this crate.
-//! docs/FROM_OTHERS.md of the repository says what is proved about each function. Bytes are DER,
-//! except for answers, orders files, texts and the content bytes of OIDs. The glossary in
-//! docs/TRUST.md explains the words of the names, such as `Refused` and `place`.
+//! Each function calls functions of `wurstdrape.h`, which are proved to meet their contracts if the
+//! caller does what the header requires. This crate does, except for two conditions that your
+//! program must meet:
+//!
+//! - Link `malloc`, `realloc` and `free` of one C library.
+//! - Don't call a function from a signal handler, or in the child after `fork` if the process has
+//!   several threads.
+//!
+//! Threads may call the functions at the same time. The text that [`describe`] returns is only
+//! tested, and so are the wrappers of this crate. docs/FROM_OTHERS.md of the repository says what
+//! is proved about each function.
+//!
+//! Bytes are DER, except for answers, signatures, orders files, texts, and the content bytes of
+//! serial numbers and OIDs. The glossary in docs/TRUST.md explains words that occur in names, such
+//! as `Refused` and `place`.
+//!
+//! # Building
+//!
+//! The crate links two static libraries, on Linux on x86-64. `bindings/build.sh FOLDER` of the
+//! repository makes them, and an installed release has them in `PREFIX/lib`. Set the environment
+//! variable `WURSTDRAPE` to this folder when you build your program.
 //!
 //! # Validating a chain
 //!
@@ -22,6 +38,9 @@
 //! # assert_eq!(chain, b"intermediateend entity");
 //! ```
 //!
+//! Leave the root out: if the chain contains it, the root must keep every rule, too (for example,
+//! its dates are checked).
+//!
 //! **Neither host names nor revocation are checked** (docs/CLI.md lists what else isn't checked),
 //! and this crate has no `ServerCertVerifier`.
 //!
@@ -29,7 +48,9 @@
 //! call a crate. With RustCrypto, `key` decodes to `spki::SubjectPublicKeyInfoRef`, `algorithm` to
 //! `spki::AlgorithmIdentifierRef`, and `bits` to `der::asn1::BitStringRef`. The message is
 //! `signed`. `ring` and the verifiers of rustls-pki-types take the bits of the key
-//! (`subject_public_key`) in place of the SubjectPublicKeyInfo.
+//! (`subject_public_key`) in place of the SubjectPublicKeyInfo, so also compare the algorithm of
+//! the key. The `AlgorithmIdentifier` of rustls-pki-types is the content of `algorithm`, without
+//! the header of the SEQUENCE.
 //!
 #![doc = concat!("```no_run\n", include_str!("../examples/questions.rs"), "```")]
 //!
@@ -87,7 +108,8 @@ pub enum Error {
     /// The trust anchors, the answers, the orders file, the limit, the algorithm or an OID is
     /// wrong.
     Arguments,
-    /// Out of memory.
+    /// The library ran out of memory. (If a buffer of this crate can't be allocated, the process
+    /// aborts, as with any `Vec`.)
     Memory,
 }
 
@@ -196,7 +218,7 @@ pub enum Audit {
     },
     /// The order at index `place` is rejected, so there is no chain.
     NotIssued {
-        /// The index of the order, counted from 0.
+        /// The index of the order, counted from 0; for [`OrderFault::NoOrders`] it is 0.
         place: u64,
         /// The reason why it is rejected.
         fault: OrderFault,
@@ -395,9 +417,10 @@ pub fn signed_part(orders: &str, place: u32, algorithm: &[u8]) -> Result<Vec<u8>
 
 /// Returns the certificate at an index, with `signature` as the signature of its TBSCertificate.
 ///
-/// `signature` is the bytes that a signer such as `ring` returns, and not a BIT STRING in DER: for
-/// ECDSA, the DER of an Ecdsa-Sig-Value (RFC 3279 2.2.3), which is `ecdsa::der::Signature` of
-/// RustCrypto. It isn't verified: use [`verify`] on the whole chain, with its root as trust anchor.
+/// `signature` is the bytes that a signer returns, and not a BIT STRING in DER. For ECDSA, it is
+/// the DER of an Ecdsa-Sig-Value (RFC 3279 2.2.3): what `ring` returns with
+/// `ECDSA_.._ASN1_SIGNING`, or `ecdsa::der::Signature` of RustCrypto. It isn't verified: use
+/// [`verify`] on the whole chain, with its root as trust anchor.
 ///
 /// # Errors
 ///

@@ -24,8 +24,8 @@ pub enum Rule {
     AgainstPurpose = 8,
     /// Another certificate follows, and this one isn't a CA's (6.1.4 (k), (n)).
     NotAuthority = 9,
-    /// The certificate is an intermediate CA, not self-issued, beyond the path length of an earlier
-    /// one (6.1.4 (l), (m)).
+    /// The certificate is an intermediate CA that isn't self-issued. With it, more such CAs follow
+    /// an earlier certificate than that one's path length allows (6.1.4 (l), (m)).
     PathTooLong = 10,
     /// The verifier doesn't accept the signature over the TBSCertificate (6.1.3 (a)(1)).
     WrongSignature = 11,
@@ -64,7 +64,8 @@ pub enum OrderFault {
     RootName = 23,
     /// The name isn't allowed for an end entity.
     SubscriberName = 24,
-    /// The serial number has no bytes, or more than 20.
+    /// The serial number has no bytes, or more than 20 in DER, where a first byte of 0x80 or more
+    /// takes one more.
     Serial = 25,
     /// A date is invalid, or notAfter is before notBefore.
     Dates = 26,
@@ -132,9 +133,10 @@ impl ChainFault {
     }
 }
 
-/// The kinds of decoding errors. docs/ENCODING.md says which bytes cause which of them.
-/// `EncodingRules`, `Failed`, `OidUnknown`, `OutOfMemory`, `Reader` and `TagModeUnknown` aren't
-/// errors of bytes, so [`crate::fault_of`] never returns them.
+/// The kinds of decoding errors. docs/ENCODING.md of the repository says which bytes cause which of
+/// them. `DateTime`, `EncodingRules`, `Failed`, `OidUnknown`, `OutOfMemory`, `Reader` and
+/// `TagModeUnknown` aren't errors of bytes, so [`crate::fault_of`] never returns them. (A date that
+/// is wrong is `Value`.)
 #[derive(Clone, Copy, Debug, PartialEq, Eq)]
 #[repr(u8)]
 pub enum FaultKind {
@@ -150,7 +152,7 @@ pub enum FaultKind {
     IndefiniteLength = 5,
     /// The type can't have this length, or the length isn't in its shortest form.
     Length = 6,
-    /// There are more levels of nesting than may be open.
+    /// Values are nested more than 64 levels deep.
     NestingDepth = 7,
     /// A value isn't encoded in the only form that DER allows.
     Noncanonical = 8,
@@ -160,9 +162,9 @@ pub enum FaultKind {
     OidUnknown = 10,
     /// An allocation failed.
     OutOfMemory = 11,
-    /// A length exceeds 2^32 - 1, or a difference of lengths is negative.
+    /// A length exceeds 2^32 - 1.
     Overflow = 12,
-    /// A length has more than four bytes, or there isn't room for all bytes or members.
+    /// A length has more than four bytes after its first.
     Overlength = 13,
     /// The reader doesn't support the operation.
     Reader = 14,

@@ -6,25 +6,50 @@ issues certificate chains.
     wurstdrape.describe(der)                        # a dict
     wurstdrape.verify(roots, [ca, server]).trusted  # with `cryptography` as verifier
 
-Each function calls functions of `wurstdrape.h`. Each of those is proved to meet its contract,
-provided that its caller does what the header requires. This module does, except for one condition
-that your program must meet: don't call a function in the child after `fork` if the process has
-several threads (with `multiprocessing`, use "spawn"). Threads may call the functions at the same
-time. What `describe` and `describe_text` return is only tested, and so is this module.
-docs/FROM_OTHERS.md of the repository says what is proved about each function, and the glossary in
-docs/TRUST.md explains the words of the names, such as `REFUSED` and `place`.
+`verify` checks neither host names nor revocation.
 
-Arguments and results that are `bytes` are DER, except for questions and answers, signatures, serial
-numbers and the content bytes of OIDs. PEM isn't accepted: `ssl.PEM_cert_to_DER_cert` converts one
-certificate. Where several certificates are expected (`Several`), pass a list, or their bytes one
-after another.
+Each function calls C functions of `wurstdrape.h`. The C functions are proved to meet their
+contracts if they are called as the header requires. This module calls them so, which is tested and
+not proved. Your program must avoid only one thing: don't call a function in the child after `fork`
+if the process has several threads (with `multiprocessing`, use "spawn"). Threads may call the
+functions at the same time. What `describe` and `describe_text` return is only tested.
 
-A certificate, CRL, CSR, name or OID that can't be decoded raises `Malformed`, which is a subclass
-of `Error`. Wrong trust anchors, answers, orders files and algorithms raise `Error`. For a chain
-that can't be decoded, `questions` raises `Malformed`, and `judge` and `verify` return a verdict
-whose status is FAULTY. A number that doesn't fit into the argument of a function raises
-`ValueError`, and `MemoryError` is raised if memory runs out. The variable `WURSTDRAPE_LIBRARY`
-names another libwurstdrape.so than the one in the wheel.
+This wheel contains no pages. docs/FROM_OTHERS.md (what is proved about each function),
+docs/ENCODING.md (the rules of DER) and docs/TRUST.md (a glossary of words such as "place") are only
+in the repository. `release.py install` also installs docs/CLI.md (what isn't checked) and, from
+docs/tables, JSON.md, ORDERS.md, REFUSALS.md and REMARKS.md, in share/doc/wurstdrape.
+
+Arguments:
+
+- `Octets` is `bytes`, `bytearray` or `memoryview`. The bytes are DER, except for questions and
+  answers, signatures, serial numbers and the content bytes of OIDs.
+- `Several` is one of these, or an iterable of them, which are concatenated. Several certificates
+  are a list, or their bytes one after another.
+- `Moment` is seconds since 1970-01-01T00:00:00Z, a `datetime` (which is in local time if it has no
+  time zone), or None for the present time. It is rounded down to a whole second.
+
+PEM isn't accepted. This converts PEM, as a TLS server sends it, to a chain:
+
+    blocks = re.findall("-----BEGIN .+?-----END .+?-----", text, re.S)
+    chain = [ssl.PEM_cert_to_DER_cert(block) for block in reversed(blocks)]
+
+Leave out the root if the text contains it. The same two lines convert a file of root certificates
+to `roots`, whose order doesn't matter. `ssl.PEM_cert_to_DER_cert` raises `ValueError` for a block
+of another kind. (If such a block were skipped, another certificate could become the last one, which
+is the end entity's.)
+
+Errors:
+
+- `Malformed`: a certificate, CRL, CSR, name or OID can't be decoded, or `questions` can't decode
+  the chain. (`judge` and `verify` then return a verdict whose status is FAULTY.)
+- `Error`, of which `Malformed` is a subclass: trust anchors, answers, an orders file or an
+  algorithm are wrong, a limit is below 6, the chain of `questions` is empty, there is no
+  certificate at an index, orders are rejected, or a signature is too long.
+- `ValueError`: a number doesn't fit into the argument of a function, such as a time before 1970.
+- `MemoryError`: memory ran out.
+
+The environment variable `WURSTDRAPE_LIBRARY`, which is read at import, names another
+libwurstdrape.so than the one in the wheel. libwurstdrape_issue.so must be in the same folder.
 """
 
 from __future__ import annotations
@@ -35,8 +60,10 @@ import datetime
 import enum
 import functools
 import json
+import math
 import os
 import pathlib
+import time
 import typing
 
 __all__ = [
@@ -52,17 +79,23 @@ LIMIT = 65536
 # id-kp-serverAuth (RFC 5280 4.2.1.12)
 SERVER_AUTH = "1.3.6.1.5.5.7.3.1"
 
+# The text of the module explains these three.
 Octets = typing.Union[bytes, bytearray, memoryview]
-# Bytes, or several values that are concatenated.
 Several = typing.Union[Octets, typing.Iterable[Octets]]
-# A number is seconds since 1970, and None is the present time. A datetime without a time zone is in
-# local time. Times before 1970 raise ValueError.
-Moment = typing.Union[datetime.datetime, int, None]
+Moment = typing.Union[datetime.datetime, int, float, None]
 
 
 class Status(enum.IntEnum):
-    """The statuses that the functions of `wurstdrape.h` return. docs/FROM_OTHERS.md says what each
-    of them means ("Statuses")."""
+    """The statuses that the functions of `wurstdrape.h` return.
+
+    - `DONE`: success; of a chain: it is trusted.
+    - `REFUSED`: the chain breaks a rule, or the orders are rejected.
+    - `FAULTY`: the input can't be decoded as a value, or a text, of the expected type.
+    - `EMPTY`: the chain is empty, or has no certificate at this index.
+    - `ARGUMENTS`: an argument other than the bytes to decode is wrong, or the orders file is
+      malformed.
+    - `NO_ROOM`: a buffer is too small. No function of this module reports it.
+    - `MEMORY`: memory ran out. The functions of this module raise `MemoryError` instead."""
 
     DONE = 0
     REFUSED = 1
@@ -84,8 +117,25 @@ class Kind(enum.Enum):
 
 class Rule(enum.IntEnum):
     """The rules for each certificate of a chain (RFC 5280 6.1), in the order of the checks.
+    For each rule, docs/tables/REFUSALS.md says what to do. A certificate breaks
 
-    docs/CLI.md says what each rule requires ("Rules")."""
+    - `ALGORITHMS_DIFFER`: if the signature algorithms inside and outside of the TBSCertificate
+      differ (RFC 5280 4.1.1.2);
+    - `DUPLICATE_EXTENSION`: if two extensions have the same OID (4.2);
+    - `MALFORMED_EXTENSION`: if the content of keyUsage, subjectAltName, basicConstraints or
+      extKeyUsage can't be decoded;
+    - `UNWEIGHED_CRITICAL`: if an extension other than these four is critical (4.2);
+    - `WRONG_ISSUER`: if the issuer isn't, byte for byte, the subject of the certificate before or,
+      for the first certificate, the name of a trust anchor (6.1.3 (a)(4));
+    - `NOT_YET_VALID`: if the validation time is before the validity (6.1.3 (a)(2));
+    - `EXPIRED`: if the validation time is after the validity (6.1.3 (a)(2));
+    - `AGAINST_PURPOSE`: if extKeyUsage has neither the key purpose nor anyExtendedKeyUsage
+      (4.2.1.12);
+    - `NOT_AUTHORITY`: if another certificate follows, and this one isn't a CA's (6.1.4 (k), (n));
+    - `PATH_TOO_LONG`: if it is an intermediate CA that isn't self-issued, and with it, more such
+      CAs follow an earlier certificate than that one's path length allows (6.1.4 (l), (m));
+    - `WRONG_SIGNATURE`: if the verifier doesn't accept the signature over the TBSCertificate
+      (6.1.3 (a)(1))."""
 
     ALGORITHMS_DIFFER = 1
     DUPLICATE_EXTENSION = 2
@@ -101,8 +151,16 @@ class Rule(enum.IntEnum):
 
 
 class ChainFault(enum.IntEnum):
-    """The errors of bytes that aren't a sequence of certificates. docs/CLI.md explains each of them
-    ("Rules")."""
+    """The errors of bytes that aren't a sequence of certificates.
+
+    - `NO_CERTIFICATE`: the byte where a certificate should begin isn't 0x30.
+    - `INDEFINITE`: the length of the certificate is indefinite.
+    - `LENGTH_TOO_WIDE`: the length has more than four bytes after the first.
+    - `LENGTH_NOT_SHORTEST`: the length isn't in the shortest form (X.690 10.1).
+    - `TOO_LARGE`: the certificate has more bytes than the limit.
+    - `MALFORMED`: the bytes aren't a certificate in DER, or have a value that isn't supported, such
+      as a date before 1970.
+    - `TRUNCATED`: the chain ends inside a certificate."""
 
     NO_CERTIFICATE = 1
     INDEFINITE = 2
@@ -114,7 +172,16 @@ class ChainFault(enum.IntEnum):
 
 
 class OrderFault(enum.IntEnum):
-    """The reasons why orders are rejected. docs/tables/ORDERS.md explains each of them."""
+    """The reasons why orders are rejected. docs/tables/ORDERS.md has an example of each.
+
+    - `NO_ORDERS`: the file has no orders.
+    - `NAME`: the name can't be parsed.
+    - `ROOT_NAME`: the name isn't allowed for a root.
+    - `SUBSCRIBER_NAME`: the name isn't allowed for an end entity.
+    - `SERIAL`: the serial number has no bytes, or more than 20 in DER.
+    - `DATES`: a date is invalid, or notAfter is before notBefore.
+    - `DNS_NAME`: an end entity has no DNS name, or one that isn't ASCII.
+    - `TOO_LONG`: a length exceeds 2^32 - 1."""
 
     NO_ORDERS = 21
     NAME = 22
@@ -129,8 +196,25 @@ class OrderFault(enum.IntEnum):
 class FaultKind(enum.IntEnum):
     """The kinds of decoding errors. docs/ENCODING.md says which bytes cause which of them.
 
-    ENCODING_RULES, FAILED, OID_UNKNOWN, OUT_OF_MEMORY, READER and TAG_MODE_UNKNOWN aren't errors of
-    bytes."""
+    - `INCOMPLETE`: the input ends too early.
+    - `INDEFINITE_LENGTH`: a length is indefinite, which DER doesn't allow.
+    - `LENGTH`: the type can't have this length, or the length isn't in its shortest form.
+    - `NESTING_DEPTH`: values are nested more than 64 levels deep.
+    - `NONCANONICAL`: a value isn't encoded in the only form that DER allows.
+    - `OID_MALFORMED`: the bytes aren't an object identifier.
+    - `OVERFLOW`: a length exceeds 2^32 - 1.
+    - `OVERLENGTH`: a length has more than four bytes after its first.
+    - `SET_DUPLICATE`: a set contains a member twice.
+    - `SET_ORDERING`: a member of a set is less than the one before it.
+    - `TAG_NUMBER_INVALID`: a tag number isn't in its shortest form, or exceeds 32 bits.
+    - `TAG_UNEXPECTED`: the tag isn't the expected one.
+    - `TAG_UNKNOWN`: the tag is of the universal class and isn't supported.
+    - `TRAILING_DATA`: there are bytes after the last field or value.
+    - `UTF8`: a text isn't UTF-8.
+    - `VALUE`: the type doesn't have this value, such as a date that isn't one or is before 1970.
+
+    `fault_of` never returns the others, which aren't errors of bytes: `DATE_TIME`,
+    `ENCODING_RULES`, `FAILED`, `OID_UNKNOWN`, `OUT_OF_MEMORY`, `READER` and `TAG_MODE_UNKNOWN`."""
 
     DATE_TIME = 1
     ENCODING_RULES = 2
@@ -159,17 +243,21 @@ class FaultKind(enum.IntEnum):
 
 @dataclasses.dataclass(frozen=True)
 class Fault:
-    """The first error that decoding meets. Its kind is proved, its position only tested.
+    """The first error that decoding meets.
 
-    `octet` is the index of the byte at which it was found, counted from 0, or None if it isn't
-    known."""
+    - `kind`: what is wrong. It is what `wd_is_*` stores, which is proved.
+    - `octet`: the index of the byte at which the error was found, counted from 0, or None if it
+      isn't known. It is only tested."""
 
     kind: FaultKind
     octet: int | None
 
 
 class Error(Exception):
-    """The error of a call, with the status that the function returned."""
+    """The error of a call.
+
+    - `status`: ARGUMENTS if an argument is wrong, EMPTY if the chain is empty or has no certificate
+      at the index, REFUSED if the orders are rejected, and FAULTY for `Malformed`."""
 
     def __init__(self, status: Status, why: str):
         super().__init__(why)
@@ -177,7 +265,10 @@ class Error(Exception):
 
 
 class Malformed(Error):
-    """The input can't be decoded. Contains the first error, if it is known."""
+    """The input can't be decoded.
+
+    - `fault`: the first error (a `Fault`) of a certificate, a CRL or a CSR. It is None for other
+      inputs."""
 
     def __init__(self, what: str, fault: Fault | None = None):
         where = "" if fault is None else f": {fault.kind.name}"
@@ -189,7 +280,9 @@ class Malformed(Error):
 
 @dataclasses.dataclass(frozen=True)
 class Validity:
-    """The validity period of a certificate: its first and its last second."""
+    """The validity period of a certificate.
+
+    - `not_before`, `not_after`: its first and its last second, in UTC."""
 
     not_before: datetime.datetime
     not_after: datetime.datetime
@@ -197,7 +290,7 @@ class Validity:
 
 @dataclasses.dataclass(frozen=True)
 class Parts:
-    """The parts of a certificate (RFC 5280 4.1). They refer to its bytes; nothing is copied.
+    """The parts of a certificate (RFC 5280 4.1), as views of the bytes that were passed to `parts`.
 
     - `signed_part`: the TBSCertificate.
     - `serial_number`: the content bytes: two's complement, most significant byte first.
@@ -213,15 +306,16 @@ class Parts:
 
 @dataclasses.dataclass(frozen=True)
 class Verdict:
-    """The verdict on a chain. It is true exactly if the chain is trusted.
+    """The verdict on a chain. `bool(verdict)` is True exactly if the chain is trusted.
 
     - `status`: DONE if the chain is trusted, REFUSED if a certificate breaks a rule, FAULTY if the
       chain isn't a sequence of certificates, and EMPTY if it is empty.
     - `place`: with REFUSED, the index of the first certificate that breaks a rule. A trust anchor
       issued the certificate at index 0. With FAULTY, the number of certificates before the error.
-    - `rule`: with REFUSED, the first rule that this certificate breaks.
-    - `offset`, `fault`: with FAULTY, the index of the first byte after these certificates, and the
-      kind of the error."""
+    - `rule`: with REFUSED, the first rule that this certificate breaks. For each rule,
+      docs/tables/REFUSALS.md says what to do.
+    - `offset`, `fault`: with FAULTY, the index of the first byte that belongs to no certificate,
+      and the kind of the error."""
 
     status: Status
     place: int | None = None
@@ -240,10 +334,11 @@ class Verdict:
 
 @dataclasses.dataclass(frozen=True)
 class Audit:
-    """The answer of `audit`: whether the chain that an orders file describes will be trusted. It is
-    true exactly if it will.
+    """The answer of `audit`: whether the chain that an orders file describes will be trusted, if
+    its signatures are valid and each certificate is within the size limit of the validation.
+    `bool(audit)` is True exactly if `status` is DONE.
 
-    - `status`: DONE if it will be trusted, and REFUSED otherwise.
+    - `status`: DONE if the chain will be trusted, and REFUSED otherwise.
     - `place`: with REFUSED, the index of the certificate that breaks a rule, or of the order that
       is rejected.
     - `rule`, `fault`: with REFUSED, the rule, or the reason why the order is rejected. The other
@@ -256,8 +351,7 @@ class Audit:
 
     @property
     def trusted(self) -> bool:
-        """Whether the chain will be trusted, if its signatures are valid and each certificate is
-        within the size limit of the validation."""
+        """Whether the status is DONE."""
         return self.status is Status.DONE
 
     def __bool__(self) -> bool:
@@ -337,8 +431,24 @@ def _issuing() -> ctypes.CDLL:
     return _load(_FILE.with_name("libwurstdrape_issue.so"), _ISSUING_CALLS)
 
 
+# What may be wrong if a function returns ARGUMENTS. The OIDs were valid.
+_WRONG_ORDERS = (
+    "the orders file or the algorithm is malformed; `cert_desk issue FILE` names the wrong line"
+)
+_WRONG = {
+    "wd_questions": "the trust anchors or the limit are wrong; `cert_tool explain anchors FILE` "
+    "checks the anchors",
+    "wd_verify": "the trust anchors, the answers or the limit are wrong; `cert_tool explain "
+    "anchors FILE` checks the anchors",
+    "wd_signed_part": _WRONG_ORDERS,
+    "wd_issue": f"the signature is too long, or {_WRONG_ORDERS}",
+    "wd_audit": _WRONG_ORDERS,
+}
+
+
 def _run(call, *values) -> Status:
-    """Calls a function, which takes bytes and texts as a pointer and a length."""
+    """Calls a function, which takes bytes and texts as a pointer and a length. Raises the error for
+    the statuses ARGUMENTS and MEMORY."""
     arguments = []
     for value in values:
         if isinstance(value, str):
@@ -351,15 +461,18 @@ def _run(call, *values) -> Status:
     for kind, value in zip(call.argtypes, arguments):
         if kind in _BITS and not 0 <= value < 2 ** _BITS[kind]:
             raise ValueError(f"{value} isn't from 0 to 2^{_BITS[kind]} - 1")
-    return call(*arguments)
+    status = call(*arguments)
+    if status is Status.ARGUMENTS:
+        raise Error(status, _WRONG.get(call.__name__, "an argument is wrong"))
+    if status is Status.MEMORY:
+        raise MemoryError
+    return status
 
 
 _NOUNS = {Kind.CERTIFICATE: "a certificate", Kind.LIST: "a CRL", Kind.REQUEST: "a CSR"}
 _REASONS = {
-    Status.REFUSED: "the orders are rejected",
+    Status.REFUSED: "the orders are rejected; `audit` says why",
     Status.EMPTY: "the chain is empty, or has no certificate at this index",
-    Status.ARGUMENTS: "the anchors, the answers, the orders, the limit, the algorithm or an OID is "
-    "wrong",
 }
 
 
@@ -369,8 +482,6 @@ def _raise_unless_done(status: Status, what: str | Kind, octets: Octets = b"") -
         raise Malformed(_NOUNS[what], fault_of(octets, what))
     if status is Status.FAULTY:
         raise Malformed(what)
-    if status is Status.MEMORY:
-        raise MemoryError
     if status is not Status.DONE:
         raise Error(status, _REASONS[status])
 
@@ -403,19 +514,20 @@ def fault_of(der: Octets, kind: Kind = Kind.CERTIFICATE) -> Fault | None:
 
 
 def show(der: Octets, kind: Kind = Kind.CERTIFICATE) -> str:
-    """Returns the listing, as `cert_desk show` prints it."""
+    """Returns a short listing, as `cert_desk show` prints it. It is the text of `wd_show_*`,
+    which is proved."""
     return _written(kind, _of(kind, "show"), der).decode()
 
 
 def describe_text(der: Octets, kind: Kind = Kind.CERTIFICATE) -> str:
-    """Returns the description, as `cert_tool describe` prints it. The text isn't proved."""
+    """Returns the description, as `cert_tool describe` prints it. The text is tested, but not
+    proved."""
     return _written(kind, _of(kind, "describe"), der, False).decode()
 
 
 def describe(der: Octets, kind: Kind = Kind.CERTIFICATE) -> dict:
-    """Returns the description as a dict, decoded from the output of `cert_tool describe --json`.
-
-    Its contents aren't proved."""
+    """Returns what `cert_tool describe --json` would print, as a dict. The text is tested, but not
+    proved. docs/tables/JSON.md lists the members."""
     return json.loads(_written(kind, _of(kind, "describe"), der, True))
 
 
@@ -434,7 +546,8 @@ def _at(der: Octets, span: _Span) -> memoryview:
 
 
 def parts(der: Octets) -> Parts:
-    """Returns the parts of a certificate. Nothing is copied."""
+    """Returns the parts of a certificate, as views of `der`. (A `bytearray` or `memoryview` is
+    copied for the call.)"""
     spans = _Spans()
     _raise_unless_done(_run(_library.wd_parts, der, spans), Kind.CERTIFICATE, der)
     return Parts(*(_at(der, getattr(spans, name)) for name, _ in spans._fields_))
@@ -459,11 +572,11 @@ def validity(der: Octets) -> Validity:
 
 
 def extension(der: Octets, identifier: str) -> tuple[memoryview, bool] | None:
-    """Returns the content of the first extension with an OID (such as `2.5.29.19`), and whether
-    it is critical, or None if there is no such extension.
+    """Returns the content of the first extension with an OID (such as `2.5.29.19`), as a view of
+    `der`, and whether it is critical. Returns None if there is no such extension.
 
     A second extension with the same OID, which RFC 5280 4.2 forbids and `verify` rejects, isn't
-    reported. Raises `Malformed` if `identifier` isn't an OID."""
+    reported. Raises `Malformed` if `identifier` isn't an OID of at most 39 content bytes."""
     span, critical = _Span(), _BOOL()
     octets = identifier_of_text(identifier)
     status = _run(_library.wd_extension, der, octets, span, critical)
@@ -484,13 +597,15 @@ def name_of_text(text: str) -> bytes:
 
 
 def identifier_text(octets: Octets) -> str:
-    """Returns the dotted text of an OID that is given by its content bytes (X.690 8.19)."""
+    """Returns the dotted text of an OID that is given by its content bytes (X.690 8.19). Raises
+    `Malformed` if they aren't an OID of at most 39 bytes."""
     return _written("the content of an OID", _library.wd_identifier_text, octets).decode()
 
 
 @functools.lru_cache(maxsize=64)
 def identifier_of_text(text: str) -> bytes:
-    """Returns the content bytes of an OID that is given as dotted text."""
+    """Returns the content bytes of an OID that is given as dotted text. Raises `Malformed` if the
+    text isn't that of an OID of at most 39 content bytes."""
     return _written("the text of an OID", _library.wd_identifier_of_text, text)
 
 
@@ -502,8 +617,14 @@ def _joined(octets: Several) -> bytes:
 
 def _seconds(at: Moment) -> int:
     if at is None:
-        at = datetime.datetime.now(datetime.timezone.utc)
-    return at if isinstance(at, int) else int(at.timestamp())
+        at = time.time()
+    if isinstance(at, datetime.datetime):
+        at = at.timestamp()
+    # Half a second before 1970 is -1, and is rejected.
+    try:
+        return math.floor(at)
+    except OverflowError:
+        raise ValueError(f"{at} isn't a number of seconds") from None
 
 
 def questions(anchors: Several, chain: Several, limit: int = LIMIT) -> list[bytes]:
@@ -516,11 +637,13 @@ def questions(anchors: Several, chain: Several, limit: int = LIMIT) -> list[byte
     A line is `PLACE ANCHOR KEY ALGORITHM SIGNED BITS` and a newline. PLACE is the index of the
     certificate, and ANCHOR that of the trust anchor, or `-`; a verifier ignores both. The other
     four are in hex: KEY is the SubjectPublicKeyInfo, ALGORITHM the AlgorithmIdentifier, SIGNED the
-    signed bytes, and BITS the BIT STRING of the signature, each in DER.
+    signed bytes, and BITS the BIT STRING of the signature, each in DER. The first certificate has a
+    line for each trust anchor that has its issuer's name.
 
-    Raises `Malformed` if the chain isn't a sequence of certificates of at most `limit` bytes each,
-    and `Error` if it is empty, if the trust anchors can't be decoded or have 2^32 bytes or more, or
-    if `limit` is below 6."""
+    Raises `Malformed` if the chain isn't a sequence of certificates of at most `limit` bytes each
+    (for the position of the error, call `judge(b"", anchors, chain, limit=limit)`), and `Error` if
+    it is empty, if the trust anchors can't be decoded or have 2^32 bytes or more, or if `limit` is
+    below 6."""
     lent = _joined(anchors), _joined(chain), limit
     return _written("a chain", _library.wd_questions, *lent).splitlines(keepends=True)
 
@@ -537,13 +660,15 @@ def judge(
 
     `answers` are the lines of `questions` whose signatures the verifier has accepted; all other
     signatures count as invalid. `anchors`, `chain` and `limit` are those of `questions`. `at` is
-    the validation time: seconds since 1970-01-01T00:00:00Z, or a datetime, which is in local time
-    if it has no time zone. The default is the present time. `purpose` is the OID of the key purpose
-    that extKeyUsage must permit (RFC 5280 4.2.1.12); the default is serverAuth.
+    the validation time: seconds since 1970-01-01T00:00:00Z, such as `time.time()`, or a `datetime`,
+    which is in local time if it has no time zone. It is rounded down to a whole second. The default
+    is the present time. `purpose` is the OID of the key purpose that extKeyUsage must permit
+    (RFC 5280 4.2.1.12); the default is serverAuth.
 
     Neither host names nor revocation are checked; docs/CLI.md lists what else isn't. A chain that
     isn't trusted raises no error: test `.trusted` of the verdict. Raises `Error` if the trust
-    anchors, the answers or the limit are wrong, and `Malformed` if the purpose isn't an OID."""
+    anchors, the answers or the limit are wrong, `Malformed` if the purpose isn't an OID, and
+    `ValueError` if the time is before 1970."""
     told = _Place()
     lent = _joined(answers), _joined(anchors), _joined(chain), _seconds(at)
     status = _run(_library.wd_verify, *lent, identifier_of_text(purpose), limit, told)
@@ -614,9 +739,11 @@ def issued(orders: str, place: int, algorithm: Octets, signature: Octets) -> byt
 
     `orders` is as in `signed_part`. `signature` is the signature of what `signed_part` returns for
     this index, as the bytes that the method `sign` of a private key of `cryptography` returns.
-    (`issue` makes the whole chain.) The signature isn't verified. To verify all of them, including
-    the root's own, pass the whole chain, with the root: `verify(chain[0], chain)`. Raises the
-    errors of `signed_part`, and `Error` if the signature is too long."""
+    (`issue` makes the whole chain.)
+
+    The signature isn't verified. When you have all certificates in a list `chain`, the root first,
+    `verify(chain[0], chain)` verifies all signatures, including the root's own. Raises the errors
+    of `signed_part`, and `Error` if the signature is too long."""
     return _written("a chain", _issuing().wd_issue, orders, place, algorithm, signature)
 
 
@@ -628,10 +755,11 @@ def issue(
 
     `orders` is as in `signed_part`. `sign` takes the index of the certificate whose key signs (0
     for the root) and the bytes to sign, and returns the signature, as the bytes that the method
-    `sign` of a private key of `cryptography` returns. The signatures aren't verified. To verify
-    them, including the root's own, pass the whole chain: `verify(chain[0], chain)`. Raises `Error`
-    if the orders are malformed or rejected, if the algorithm is malformed, or if a signature is too
-    long."""
+    `sign` of a private key of `cryptography` returns.
+
+    The signatures aren't verified. With the result as `chain`, `verify(chain[0], chain)` verifies
+    all of them, including the root's own. Raises `Error` if the orders are malformed or rejected,
+    if the algorithm is malformed, or if a signature is too long."""
     certificates: list[bytes] = []
     while True:
         place = len(certificates)
@@ -653,8 +781,8 @@ def audit(
     size limit of the validation.
 
     Nothing is signed. `orders` is as in `signed_part`, and `at` and `purpose` are as in `judge`.
-    Raises `Error` if the orders file or the algorithm is malformed, and `Malformed` if the purpose
-    isn't an OID."""
+    Raises `Error` if the orders file or the algorithm is malformed, `Malformed` if the purpose
+    isn't an OID, and `ValueError` if the time is before 1970."""
     told = _Reason()
     lent = orders, algorithm, _seconds(at), identifier_of_text(purpose)
     status = _run(_issuing().wd_audit, *lent, told)
