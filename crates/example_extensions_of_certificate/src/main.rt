@@ -1,5 +1,5 @@
-//! Prints three facts about the certificate on standard input (DER): its DNS names, whether its key
-//! may sign certificates, and its path length.
+//! Prints three facts about the certificate on standard input (DER): its DNS names, whether its
+//! keyUsage allows its key to sign certificates, and its path length.
 #![tactic(auto)]
 
 use der_core::Result;
@@ -49,8 +49,8 @@ fn dns_names(alloc: Global, certificate: &TbsCertificateInner<Raw>) -> Result<St
     Ok(text)
 }
 
-/// Returns whether the key may sign certificates. Without a keyUsage, it may be used for
-/// everything.
+/// Returns whether the keyUsage allows the key to sign certificates, which is so if there is none.
+/// This is no test for a CA: a CA must also have basicConstraints with `ca`.
 fn signs_certificates(alloc: Global, certificate: &TbsCertificateInner<Raw>) -> Result<bool> {
     let usage = certificate.get_extension::<KeyUsage>(alloc)?;
     Ok(usage.map_or(true, |(_, usage)| usage.key_cert_sign()))

@@ -20,7 +20,12 @@ use std::alloc::Global;
 /// # Errors
 ///
 /// - `OutOfMemory`: memory runs out.
-/// - `Fault`: the certificates have 2^64 bytes or more, which takes a path that repeats indices.
+/// - Any other error: the certificates have 2^64 bytes or more, which takes a path that repeats
+///   indices.
+///
+/// If memory ran out in `certificates`, or a read of it failed, the clauses `chain` and `long`
+/// state nothing. The result has still read the encodings of the certificates (`reads`), but no
+/// clause says which error is returned.
 pub fn chain_of(alloc: Global, certificates: &Bundle, path: &[usize]) -> Result<Bundle, BundleError>
     requires { 6 ≤ certificates.now.limit }
     ensures ended { IfOk result (λ chain. chain.standing ≡ Standing.Ended) }
@@ -28,10 +33,10 @@ pub fn chain_of(alloc: Global, certificates: &Bundle, path: &[usize]) -> Result<
     // The bundle has read the encodings of the certificates, one after another.
     ensures reads { IfOk result (λ chain. Reads Bound chain
         (joined Bound (certificates_at certificates.now.certificates path.now))) }
-    // So its certificates are these.
+    // So its certificates are these, if `certificates` is the result of reading an input.
     ensures chain { IfOk result (λ chain. (stream : List ℕ) → Reads Bound certificates.now stream
         → chain.certificates ≡ certificates_at certificates.now.certificates path.now) }
-    // The only cause of an error is their length, or memory.
+    // The only cause of an error is then their length, or memory.
     ensures long { IfErr result (λ e. (stream : List ℕ) → Reads Bound certificates.now stream
         → e ≢ BundleError.OutOfMemory → 2 ^ 64
         ≤ length (joined Bound (certificates_at certificates.now.certificates path.now))) }

@@ -3,9 +3,11 @@
 //! the signed part of an encoding.
 //!
 //! The certificates of a message are a SET OF, so they are sorted by their encodings. Feed them to
-//! a [`Bundle`] in that order. [`find_by_issuer_and_serial`] or [`find_by_key_identifier`] finds
-//! the signer's certificate among them, [`path_to`] its certification path, and [`chain_of`] makes
-//! a bundle of the certificates of the path, which `cert_desk_checking::check` validates.
+//! a [`Bundle`] in that order. For a message, [`find_by_issuer_and_serial`] or
+//! [`find_by_key_identifier`] finds the signer's certificate among them, and for an OCSP response
+//! [`find_by_subject`] (byName) or [`find_by_key_hash`] (byKey). [`path_to`] finds its
+//! certification path, and [`chain_of`] makes a bundle of the certificates of the path, which
+//! `cert_desk_checking::check` validates.
 //!
 //! [`Bundle`]: cert_desk_checking::desk_bundle::Bundle
 //!

@@ -17,14 +17,19 @@ use std::alloc::{AllocError, Global};
 use x509_cert_certificates::CertificateInner;
 use x509_cert_certificates::cert_parts::Raw;
 
-/// Returns the certification path of a certificate among the certificates of a bundle, as their
-/// indices: the certificate that a trust anchor issued comes first, and `last` is the last index
-/// (RFC 5280 6.1).
+/// Returns the certification path of a certificate as indices of the bundle's certificates, from
+/// the top down (RFC 5280 6.1). The last index is `last`.
 ///
-/// The path is made from its end. Before a certificate comes the first certificate whose subject is
-/// its issuer, byte for byte. A path begins with a certificate whose issuer is a trust anchor, or
-/// that is self-issued, or whose issuer has no certificate here. It has at most as many
-/// certificates as the bundle, so a cycle ends, too. Only names are compared.
+/// Only names are compared, byte for byte. The path is made from its end: before a certificate
+/// comes the first certificate whose subject is its issuer. The path stops at a certificate that is
+/// self-issued, that names a trust anchor as its issuer, or whose issuer has no certificate here.
+/// If the names form a cycle, it stops when it has as many indices as the bundle has certificates,
+/// and an index may occur several times.
+///
+/// # Panics
+///
+/// In a program that isn't proved, if `last` isn't the index of a certificate (for an empty bundle,
+/// it returns an empty path).
 ///
 /// # Errors
 ///
@@ -87,7 +92,8 @@ fn next_up(certificates: &Bundle, place: usize, anchors: &[Anchor]) -> Option<us
     issuer_among(certificates, entry.certificate)
 }
 
-// Returns whether a path begins with a certificate because of its issuer.
+// Returns whether a path begins with this certificate: it is self-issued, or its issuer is the name
+// of a trust anchor.
 fn is_top(certificate: &CertificateInner<Raw>, anchors: &[Anchor]) -> bool
     requires { IsValid (raw_certificate Bound) (certificate_plain certificate.now) }
     ensures { result ≡ is_top Bound (map anchor_plain anchors.now)

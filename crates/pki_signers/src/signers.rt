@@ -21,8 +21,9 @@ use x509_cert_certificates::CertificateInner;
 use x509_cert_certificates::cert_names::Name;
 use x509_cert_certificates::cert_parts::{Extension, Raw, SerialNumber};
 
-/// Returns the index of the first certificate with this issuer and this serial number, which
-/// together identify a certificate (RFC 5280 4.1.2.2; issuerAndSerialNumber of RFC 5652 10.2.4).
+/// Returns the index of the first certificate with this issuer, byte for byte, and this serial
+/// number, or `None` if there is none. Together, they identify a certificate (RFC 5280 4.1.2.2;
+/// issuerAndSerialNumber of RFC 5652 10.2.4).
 pub fn find_by_issuer_and_serial(
     certificates: &Bundle,
     issuer: &Name,
@@ -60,7 +61,8 @@ fn has_issuer_and_serial(
 }
 
 /// Returns the index of the first certificate that has a subjectKeyIdentifier extension with this
-/// key identifier (RFC 5280 4.2.1.2; subjectKeyIdentifier of RFC 5652 5.3).
+/// key identifier, or `None` if there is none (RFC 5280 4.2.1.2; subjectKeyIdentifier of RFC 5652
+/// 5.3). A malformed subjectKeyIdentifier never matches.
 pub fn find_by_key_identifier(certificates: &Bundle, key_identifier: &[u8]) -> Option<usize>
     ensures found { result ≡ position (has_key_identifier key_identifier.now)
         certificates.now.certificates }
@@ -129,7 +131,8 @@ fn is_octet_string(octets: &[u8], content: &[u8]) -> bool
     &octets[start..] == content
 }
 
-/// Returns the index of the first certificate with this subject (byName of RFC 6960 4.2.1).
+/// Returns the index of the first certificate with this subject, byte for byte, or `None` if there
+/// is none (byName of RFC 6960 4.2.1).
 pub fn find_by_subject(certificates: &Bundle, subject: &Name) -> Option<usize>
     ensures found { result ≡ position (has_subject Bound (name_plain subject.now))
         certificates.now.certificates }
@@ -156,8 +159,9 @@ fn has_subject(certificate: &CertificateInner<Raw>, subject: &Name) -> bool
         .has_octets_of(subject)
 }
 
-/// Returns the index of the first certificate whose key has this SHA-1 digest (byKey of RFC 6960
-/// 4.2.1). It is computed over the bytes of the key's bit string.
+/// Returns the index of the first certificate whose key has this SHA-1 digest, or `None` if there
+/// is none (byKey of RFC 6960 4.2.1). The digest is computed over the bytes of the key's BIT
+/// STRING, without the tag, the length and the number of unused bits.
 pub fn find_by_key_hash(certificates: &Bundle, key_hash: &[u8]) -> Option<usize>
     ensures found { result ≡ position (has_key_hash key_hash.now) certificates.now.certificates }
     ensures within { IfSome result (λ place. place < length certificates.now.certificates) }
