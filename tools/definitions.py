@@ -80,8 +80,8 @@ def filled(line, indent=""):
     return textwrap.fill(line, sources.WIDTH, **how)
 
 
-def told_many(items, noun):
-    return f"{len(items)} {noun}{'s' * (len(items) != 1)}"
+def many(count, noun):
+    return f"{count} {noun}{'s' * (count != 1)}"
 
 
 def claim(book, words, names):
@@ -123,8 +123,9 @@ def section(book, crate, own):
     rows = {file: row for file in own if (row := file_row(file))}
     stated = [call for call in book.ghosts if call.crate == crate]
     size = sum(len(call.text.splitlines()) for call in stated)
-    total = f"{told_many(rows, 'file')}, {sum(len(file.lines) for file in rows)} lines"
-    members = f"{told_many(stated, 'ghost member')} of impls, {size} lines"
+    lines = sum(len(file.lines) for file in rows)
+    total = f"{many(len(rows), 'file')}, {many(lines, 'line')}"
+    members = f"{many(len(stated), 'ghost member')} of impls, {many(size, 'line')}"
     yield filled("; ".join([total] * bool(rows) + [members] * bool(stated)) + ".")
     head = "| File | Lines | Definitions | What it says |\n|---|---|---|---|\n"
     yield head + "\n".join(rows.values()) if rows else ""
@@ -189,7 +190,8 @@ def told(book, names):
         name = member.name.removeprefix("ghost ")
         place = f"crates/{member.crate}/src/{member.path}:{member.line}"
         print(f"  ghost {member.owner}.{name}: {place}")
-    print(f"{told_many(kept, 'definition')}, {sum(one.lines for one in kept)} lines")
+    lines = sum(one.lines for one in kept)
+    print(f"{many(len(kept), 'definition')}, {many(lines, 'line')}")
     return bool(unknown)
 
 
