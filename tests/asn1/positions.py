@@ -181,8 +181,12 @@ use std::io;
 fn main(rt: HostRuntime) -> io::Result<()> {
     for line in rt.lines(rt.alloc()) {
         let line = line?;
-        let Some((name, digits)) = line.as_str().split_once(' ') else { continue; };
-        let Ok(octets) = hex::decode(rt.alloc(), digits) else { continue; };
+        let Some((name, digits)) = line.as_str().split_once(' ') else {
+            continue;
+        };
+        let Ok(octets) = hex::decode(rt.alloc(), digits) else {
+            continue;
+        };
         match again(rt.alloc(), name, octets.as_slice()) {
             Ok(found) => println!(rt; "{name} {}", hex::encode(rt.alloc(), found.as_slice())?)?,
             Err(error) => println!(rt; "{name} rejected: {error}")?,
