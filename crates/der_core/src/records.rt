@@ -121,7 +121,6 @@ pub trait RowUser {
             self.old self.new result };
 
     /// Receives two borrowed rows, as `lend!` makes them.
-    #[inline(always)]
     final fn take_lent<Row: LentRow>(&mut self, row: &Row, other: &Row) -> Self::Answer
         // The clause holds for any values that the rows are known to encode.
         ensures { (v w : BodyValue Row.fields) → Row.fields_written row.now ≡ v
@@ -235,8 +234,6 @@ impl<T> TagWay<T> for AsRecord {
 }
 
 impl<'a, R: Reader<'a>, T: Rows + DecodeFields<'a, R> + Drop> DecodeWay<'a, R, T> for AsRecord {
-    // Inlined, so that fields are moved less often.
-    #[inline(always)]
     fn decode_by(alloc: Global, reader: &mut R, header: Header) -> Result<T, Error> {
         read_fields(alloc, reader, header)
     }

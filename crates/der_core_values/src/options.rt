@@ -43,8 +43,6 @@ impl<T: Encode> Encode for Option<T> {
         }
     }
 
-    // Inlined, so that the result isn't moved.
-    #[inline(always)]
     #[tactic(auto, using(der_core_octets::proofs::Added::none_added), unfolding(crate::specs::Opened::octets_of))]
     fn encode<W: Writer>(&self, writer: &mut W) -> Result<(), Error> {
         match self {
