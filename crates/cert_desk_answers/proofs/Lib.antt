@@ -1,5 +1,4 @@
-pub mod AnswerFile
-pub mod WordsOfLine
+pub mod Cuts
 pub mod LineWords
 pub mod KeptLines
 pub mod Judged

@@ -1,5 +1,5 @@
 //! Files of a signature verifier's answers.
-ghost use Rattle.std.specs.Prelude.{◌≡◌, map, IfOk, IfErr, OnOk, Some, Ok};
+ghost use Rattle.std.specs.Prelude.{◌≡◌, ◌≤◌, ◌∷◌, length, map, IfOk, IfErr, OnOk, Some, Ok};
 ghost use Rattle.std.specs.List.{list_all};
 ghost use Rattle.cert_desk_checking.specs.Der.Grammar.{read_whole};
 ghost use Rattle.cert_desk_checking.specs.CertParts.Views.{algorithm_plain, key_plain};
@@ -9,6 +9,7 @@ ghost use Rattle.cert_desk_answers.specs.AnswerLines.{is_digit, is_number, is_sk
 ghost use Rattle.cert_desk_answers.specs.AnswerLines.{line_says, octets_in, parts, question_in};
 ghost use Rattle.cert_desk_answers.specs.AnswerLines.{said, six_say, value_or, words_say};
 ghost use Rattle.cert_desk_answers.specs.AnswerReading.{FailsBy, IsNoFile, IsNoLine, added_by};
+ghost use Rattle.cert_desk_answers.specs.AnswerReading.{parts_left, six_or_none, size_left};
 
 use crate::line_fault::LineFault;
 use crate::no_answers::NoAnswers;
@@ -18,7 +19,8 @@ use cert_desk_checking::der::{Decode, ErrorKind, SliceReader};
 use cert_desk_checking::desk_rules::Answer;
 use cert_desk_checking::types::BitString;
 use hex::FromHexError;
-use std::alloc::{AllocError, Global};
+use memchr::memchr;
+use std::alloc::Global;
 
 // Why a line can't be parsed.
 #[derive(Clone, Copy)]
@@ -146,12 +148,58 @@ fn answer_of(
     })
 }
 
-// Returns the parts of a text between separators.
-fn parts_of(alloc: Global, octets: &[u8], separator: u8) -> Result<Vec<&[u8]>, AllocError>
-    ensures { IfOk result (λ found. map (λ part. part.now) found.items
-        ≡ parts separator octets.now) }
+// Returns the part of a text before the first separator, and the text after this separator.
+fn cut(text: &[u8], separator: u8) -> (&[u8], Option<&[u8]>)
+    ensures parts { parts separator text.now ≡ result.0.now ∷ parts_left separator result.1 }
+    ensures shorter { size_left result.1 ≤ length text.now }
 {
-    octets.split(|octet| *octet == separator).collect(alloc)
+    match memchr(separator, text) {
+        None => (text, None),
+        Some(at) => (&text[..at], Some(&text[at + 1..])),
+    }
+}
+
+// The six words of a line.
+#[derive(Clone, Copy)]
+struct Words<'a> {
+    place: &'a [u8],
+    anchor: &'a [u8],
+    key: &'a [u8],
+    algorithm: &'a [u8],
+    signed: &'a [u8],
+    bits: &'a [u8],
+}
+
+// Returns the words of a line, if there are six.
+fn six_words(line: &[u8]) -> Option<Words<'_>>
+    ensures { words_say (parts 32 line.now) ≡ six_or_none result }
+{
+    let (place, Some(rest)) = cut(line, b' ') else {
+        return None;
+    };
+    let (anchor, Some(rest)) = cut(rest, b' ') else {
+        return None;
+    };
+    let (key, Some(rest)) = cut(rest, b' ') else {
+        return None;
+    };
+    let (algorithm, Some(rest)) = cut(rest, b' ') else {
+        return None;
+    };
+    let (signed, Some(rest)) = cut(rest, b' ') else {
+        return None;
+    };
+    match cut(rest, b' ') {
+        (_, Some(_)) => None,
+        (bits, None) => Some(Words {
+            place,
+            anchor,
+            key,
+            algorithm,
+            signed,
+            bits,
+        }),
+    }
 }
 
 // Returns whether a line is skipped: it is empty, or begins with `#`.
@@ -195,15 +243,24 @@ fn add_by_six(
 }
 
 // Parses the words of a line and appends its answer.
-fn add_by_words(alloc: Global, words: &[&[u8]], answers: &mut Vec<Answer>) -> Result<(), LineError>
-    ensures read { OnOk result (added_by (said (words_say (map (λ word. word.now) words.now)))
+fn add_by_words(alloc: Global, line: &[u8], answers: &mut Vec<Answer>) -> Result<(), LineError>
+    ensures read { OnOk result (added_by (said (words_say (parts 32 line.now)))
         (map answer_plain answers.old.items) ≡ Some (map answer_plain answers.new.items)) }
-    ensures refused { IfErr result (FailsBy (words_say (map (λ word. word.now) words.now))) }
+    ensures refused { IfErr result (FailsBy (words_say (parts 32 line.now))) }
 {
-    let [place, anchor, key, algorithm, signed, bits] = words else {
+    let Some(words) = six_words(line) else {
         return Err(LineError::Fault(LineFault::NotSixWords));
     };
-    add_by_six(alloc, place, anchor, key, algorithm, signed, bits, answers)?;
+    add_by_six(
+        alloc,
+        words.place,
+        words.anchor,
+        words.key,
+        words.algorithm,
+        words.signed,
+        words.bits,
+        answers,
+    )?;
     Ok(())
 }
 
@@ -217,10 +274,7 @@ fn add_line(alloc: Global, line: &[u8], answers: &mut Vec<Answer>) -> Result<(),
     if is_skipped(line) {
         return Ok(());
     }
-    let Ok(words) = parts_of(alloc, line, b' ') else {
-        return Err(LineError::OutOfMemory);
-    };
-    add_by_words(alloc, words.as_slice(), answers)?;
+    add_by_words(alloc, line, answers)?;
     Ok(())
 }
 
@@ -259,16 +313,16 @@ pub fn answers_in(alloc: Global, octets: &[u8]) -> Result<Vec<Answer>, NoAnswers
         ≡ Ok (map answer_plain answers.items)) }
     ensures refused { IfErr result (IsNoFile octets.now) }
 {
-    let Ok(lines) = parts_of(alloc, octets, b'\n') else {
-        return Err(NoAnswers::OutOfMemory);
-    };
     let mut answers = Vec::new(alloc);
     let mut number = 0u64;
-    for line in lines.as_slice() {
+    let mut rest = Some(octets);
+    'lines: while let Some(text) = rest {
+        let (line, more) = cut(text, b'\n');
         number = number.saturating_add(1);
         if let Err(fault) = read_line(alloc, number, line, &mut answers) {
             return Err(fault);
         }
+        rest = more;
     }
     Ok(answers)
 }
