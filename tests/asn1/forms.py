@@ -136,6 +136,8 @@ VALUES = {
                       sequence(SIZED[0], inside(2, sequence())),
                       sequence(SIZED[0], inside(3, sequence(integer(1)))),
                       sequence(SIZED[0], inside(4, sequence(*[integer(1)] * 4)))]),
+    "forms::Picked": ([sequence(), sequence(inside(0, members(*IDS)))],
+                      [sequence(inside(0, it)) for it in (members(), members(text("a")))]),
     "forms::MemberType": (MEMBERS, [sequence(integer(0), PLAIN)]),
     "forms::Within": ([sequence(*WITHIN), sequence(*WITHIN[:2], tlv(0x80, b"\5"))],
                       [sequence(numbered(3), *WITHIN[1:]), sequence(*WITHIN[:2])]),

@@ -105,8 +105,8 @@ class Choice:
             "der_core::making::cases_tag", "der_core::describing::LentField",
             "der_core::describing::ReadCase",
             *(f"der_core::{it}" for it in (
-                "Choice", "Decode", "DerOrd", "Element", "Encode", "Error", "FirstTag", "Length",
-                "Member", "Reader", "Shaped", "Tag", "Writer", "case", one_of,
+                "AsRead", "Choice", "Decode", "DerOrd", "Element", "Encode", "Error", "FirstTag",
+                "Length", "Member", "Reader", "Shaped", "Tag", "Writer", "case", one_of,
             )),
         }
         for case in self.cases:
@@ -241,6 +241,10 @@ impl Element for {rust} {{
 
 impl Member for {rust} {{
     ghost apart = {{ refl }};
+}}
+
+impl AsRead for {rust} {{
+    ghost as_read = {{ λ _. refl }};
 }}
 
 /// Compares the tags first, and then the contents.

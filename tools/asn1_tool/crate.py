@@ -187,14 +187,18 @@ class Crate:
     # Laws.
 
     def laws(self):
-        """Writes a law with a clause for each type: 64 levels of nesting suffice to decode it. The
-        library has laws about its own types, so another name of one of these needs no clause."""
+        """Writes two laws, each with a clause for each type: 64 levels of nesting suffice to decode
+        it, and its values are encoded as they are decoded. Another name of a type of the library
+        has no clause, because laws and impls of the library speak of it."""
         found = {module: types[0] for module, types in self.exports.items()
                  if types and module != "aliases"}
         found.update((names.module(it), it) for it in self.lists)
         if found and not self.report.errors:
-            clauses = [law_clause(module, found[module]) for module in sorted(found)]
-            self.files["src/laws.rt"] = LAWS.format(clauses="\n".join(clauses))
+            levels, same = (
+                "\n".join(law(module, found[module]) for module in sorted(found))
+                for law in (levels_clause, same_clause)
+            )
+            self.files["src/laws.rt"] = LAWS.format(levels=levels, same=same)
             self.exports["laws"] = None
 
     # Object identifiers.
@@ -295,9 +299,15 @@ def exported(module, found):
     return "pub " + layout.use_list(module, found)
 
 
-def law_clause(module, rust):
+def levels_clause(module, rust):
     line = f"    ensures {module} {{ are_enough ⟦<{rust} as Shaped>⟧.shape levels_max ≡ true }}"
     return line if len(line) < layout.LINE else line.replace("enough ", "enough\n        ")
+
+
+def same_clause(module, rust):
+    of = f"⟦<{rust} as Shaped>⟧"
+    line = f"    ensures {module} {{ {of}.written ≡ {of}.plain }}"
+    return line if len(line) < layout.LINE else line.replace(" ≡", "\n        ≡")
 
 
 def identifier_source(name, arcs):
@@ -325,7 +335,7 @@ LIB = """\
 #![tactic(auto)]
 """
 LAWS = """\
-//! A law about the types. It is the contract of a function that does nothing.
+//! Laws about the types. Each law is the contract of a function that does nothing.
 
 ghost use Rattle.std.specs.Prelude.{{◌≡◌, true}};
 ghost use Rattle.der_core.specs.Limits.{{levels_max}};
@@ -337,7 +347,13 @@ use der_core::Shaped;
 /// No value of these types has more levels of nesting than a reader allows, so decoding accepts all
 /// of their encodings.
 pub fn types_are_within_levels()
-{clauses}
+{levels}
+{{}}
+
+/// Values of these types are encoded as they are decoded. So the encoding of a value decodes to
+/// this value, if its parts are in range.
+pub fn values_are_encoded_as_decoded()
+{same}
 {{}}
 """
 IDENTIFIERS = """\

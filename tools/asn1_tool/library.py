@@ -23,14 +23,16 @@ class RustType:
     # A tag around it must be explicit, as for a CHOICE or any type (X.680 31.2.7).
     is_choice: bool = False
     is_copy: bool = False
-    # A value is encoded as it was decoded: no profile encodes it in another form.
-    is_same: bool = True
+    # It implements `AsRead`.
+    is_as_read: bool = True
     # For an INTEGER: the bits of the machine integer, negative if it is signed, or 0 for any size.
     bits: int | None = None
     # Its default value, as the module names it.
     default: str | None = None
     # The constraint of a set that must have a member, which only some fields check.
     unchecked_size: str | None = None
+    # It may be empty, although the module that declares it says SIZE (1..MAX).
+    may_be_empty: bool = False
     # For a SET OF: the type of its members, if it is known, and the imports of that type.
     member: tuple[str, frozenset[str]] | None = None
 
@@ -133,9 +135,9 @@ def row(text, path, first, *marks):
     found = set() if path == "-" else set(re.findall(r"[A-Z]\w*", text)) - {"Vec"}
     return RustType(
         text.replace("~", " "), frozenset(f"{path}::{it}" for it in found), tags,
-        is_choice="choice" in marks, is_copy="copy" in marks, is_same="respelled" not in marks,
+        is_choice="choice" in marks, is_copy="copy" in marks, is_as_read="no-AsRead" not in marks,
         default=next((mark[8:] for mark in marks if mark.startswith("default=")), None),
-        unchecked_size="SIZE (1..MAX)" if "size" in marks else None,
+        unchecked_size="SIZE (1..MAX)" if "size" in marks else None, may_be_empty="empty" in marks,
     )
 
 
@@ -144,8 +146,9 @@ def cells(name, of):
     tags = "ANY" if of.first is None else "+".join(sorted(map(tag_text, of.first)))
     marks = [
         mark for mark, holds in (
-            ("choice", of.is_choice), ("copy", of.is_copy), ("respelled", not of.is_same),
+            ("choice", of.is_choice), ("copy", of.is_copy), ("no-AsRead", not of.is_as_read),
             (f"default={of.default}", of.default), ("size", of.unchecked_size),
+            ("empty", of.may_be_empty),
         ) if holds
     ]
     path = next(iter(of.uses), "").rpartition("::")[0] or "-"

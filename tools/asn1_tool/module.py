@@ -436,6 +436,9 @@ class Resolved:
                                 f"--read {name}=TYPE")
         if found is None:
             raise Refused(line, f"the type {name} isn't declared")
+        if found.may_be_empty:
+            at = self.module.imports.get(read, (None, line))[1]
+            self.report.note(at, f"{name} may be empty: SIZE (1..MAX) isn't checked in the library")
         return found
 
     def imported(self, name):
@@ -485,10 +488,7 @@ class Resolved:
         if kind == "choice":
             tags = [form.first for form in forms]
             first = None if None in tags else frozenset().union(*tags)
-        return RustType(
-            text, use, first, is_choice=kind == "choice",
-            is_same=all(form.rust.is_same for form in forms),
-        )
+        return RustType(text, use, first, is_choice=kind == "choice")
 
     # Constraints.
 
@@ -544,6 +544,7 @@ class Resolved:
         member = self.form(of.member)
         self.check_size(member.rust, of.line)
         is_set, unchecked_size, only = of.word == "SET OF", None, None
+        is_as_read = member.rust.is_as_read
         text, uses = f"Vec<{member.text()}>", set(member.uses())
         if is_set:
             text = f"{self.set_type.rpartition('::')[2]}<{member.text()}>"
@@ -563,16 +564,17 @@ class Resolved:
             if is_whole and len(of.constraints) == 1 and (low, high) == (1, None):
                 if is_set:
                     unchecked_size = limit.text
-                    if self.set_type == SET_TYPE and member.rust.is_same:
+                    if self.set_type == SET_TYPE and is_as_read:
                         only = member.text(), frozenset(member.uses())
                 else:
                     text = f"OneOrMore<{member.text()}>"
                     uses.add("der_types_more::OneOrMore")
+                    is_as_read = False
                 continue
             self.unchecked(limit, text)
         return RustType(
             text, frozenset(uses), frozenset(["SET" if is_set else "SEQUENCE"]),
-            is_same=member.rust.is_same, unchecked_size=unchecked_size, member=only,
+            is_as_read=is_as_read, unchecked_size=unchecked_size, member=only,
         )
 
 

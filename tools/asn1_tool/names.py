@@ -10,16 +10,16 @@ KEYWORDS = set(
 )
 # The written files use these names for something else, so a type with such a name ends with `Type`.
 TAKEN = set(
-    """Any AsEnumerated AsNumbered AsRecord BitString Box Cases CasesRef Choice Clone Copy Debug
-    Decode DecodeFields DecodeRow DefaultContent DerOrd Described Drop Element Encode EncodeFields
-    EncodeRef Eq Err Error Explicit FieldRow Fields FieldsOrd FieldsView FirstTag Flag FlagSet Flags
-    GeneralizedTime Global Implicit ImplicitRef InRange InRangeValue Int Length Member NamedBits
-    None Null Numbered ObjectIdentifier OctetString Ok Option Ordered Ordering PartialEq Reader
-    Rest RestRef RestRow RestRowRef Result Row RowUser Rows Self SequenceOf Shaped ShapedValue Some
-    StrictSetOf String Tag Uint UtcTime Vec WithDefault Writer""".split()
+    """Any AsEnumerated AsNumbered AsRead AsRecord BitString Box Cases CasesRef Choice Clone Copy
+    Debug Decode DecodeFields DecodeRow DefaultContent DerOrd Described Drop Element Encode
+    EncodeFields EncodeRef Eq Err Error Explicit FieldRow Fields FieldsOrd FieldsView FirstTag Flag
+    FlagSet Flags GeneralizedTime Global Implicit ImplicitRef InRange InRangeValue Int Length Member
+    NamedBits None Null Numbered ObjectIdentifier OctetString Ok Option Ordered Ordering PartialEq
+    Reader Rest RestRef RestRow RestRowRef Result Row RowUser Rows Self SequenceOf Shaped
+    ShapedValue Some StrictSetOf String Tag Uint UtcTime Vec WithDefault Writer""".split()
 )
 # Modules of the crate that contain no types of the ASN.1 module.
-MODULES = {"aliases", "identifiers", "defaults", "lib", "main"}
+MODULES = {"aliases", "identifiers", "defaults", "laws", "lib", "main"}
 
 
 def words(name):

@@ -60,15 +60,15 @@ class Column:
             words.append("default" if self.default else "optional")
         return f"{self.label}: {' '.join(words)}" if words else self.label
 
-    def term(self, side, value):
-        """Returns the ghost term for a decoded (`plain`) or encoded (`written`) field."""
+    def term(self, value):
+        """Returns the ghost term for the abstract value of the field."""
         of = self.form.rust.text
         if self.is_filled:
             return f"value_or [] ⟦<{of} as ShapedValue>⟧.value_plain {value}.{self.label}"
         if self.mode == "implicit":
-            found = f"⟦<{of} as ShapedValue>⟧.value_{side}"
+            found = f"⟦<{of} as ShapedValue>⟧.value_plain"
         else:
-            found = f"⟦<{of} as Shaped>⟧.{side}"
+            found = f"⟦<{of} as Shaped>⟧.plain"
         if self.optional:
             found = f"plain_option {found}"
         return f"{found} {value}.{self.label}"
@@ -126,14 +126,12 @@ class Record:
         self.rust = names.camel(name)
         self.columns = [self.column(field) for field in self.definition.type.fields]
         self.check()
-        self.is_same = all(it.form.rust.is_same for it in self.columns)
         self.by_hand = any(it.word is None for it in self.columns)
         self.uses = {
             "der_core::DecodeFields", "der_core::Error", "der_core::Reader", "std::alloc::Global",
             *(f"der_core::describing::{it}" for it in
-              ("AsRecord", "Described", "FieldRow", "RowUser", "Rows")),
+              ("AsRecord", "Described", "FieldRow", "FieldsView", "RowUser", "Rows")),
         }
-        self.uses.add("der_core::describing::FieldsView" if self.is_same else "der_core::Fields")
         self.uses.update(*(it.uses() for it in self.columns))
 
     def column(self, field):
@@ -211,16 +209,10 @@ class Record:
         return f"impl Described for {self.rust} {{\n    type By = AsRecord;\n}}"
 
     def view(self):
-        def clause(name, side):
-            terms = layout.pairs([it.term(side, "r") for it in self.columns], 4)
-            return f"    ghost {name} = {{ λ r. {terms} }};"
-
-        shape = "⟦<Row as FieldRow>⟧.fields"
-        if self.is_same:
-            return (f"impl FieldsView for {self.rust} {{\n    ghost body = {{ {shape} }};\n\n"
-                    f"{clause('view', 'plain')}\n}}")
-        return (f"impl Fields for {self.rust} {{\n    ghost fields = {{ {shape} }};\n\n"
-                f"{clause('fields_plain', 'plain')}\n\n{clause('fields_written', 'written')}\n}}")
+        terms = layout.pairs([it.term("r") for it in self.columns], 4)
+        return (f"impl FieldsView for {self.rust} {{\n"
+                "    ghost body = { ⟦<Row as FieldRow>⟧.fields };\n\n"
+                f"    ghost view = {{ λ r. {terms} }};\n}}")
 
     def decoding(self):
         call = f"fn decode_fields(alloc: Global, reader: &mut R) -> Result<{self.rust}, Error>"

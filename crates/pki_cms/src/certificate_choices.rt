@@ -9,8 +9,8 @@ use crate::other_certificate_format::OtherCertificateFormat;
 use der_core::describing::{LentField, ReadCase, Whole};
 use der_core::making::{cases_cmp, cases_tag};
 use der_core::{
-    Choice, Decode, DerOrd, Element, Encode, EncodeRef, Error, FirstTag, Implicit, ImplicitRef,
-    Length, Member, OneOf5, Reader, Shaped, ShapedValue, Tag, Writer, case,
+    AsRead, Choice, Decode, DerOrd, Element, Encode, EncodeRef, Error, FirstTag, Implicit,
+    ImplicitRef, Length, Member, OneOf5, Reader, Shaped, ShapedValue, Tag, Writer, case,
 };
 use der_types_more::SequenceOwned;
 use std::alloc::Global;
@@ -126,6 +126,10 @@ impl Element for CertificateChoices {
 
 impl Member for CertificateChoices {
     ghost apart = { refl };
+}
+
+impl AsRead for CertificateChoices {
+    ghost as_read = { λ _. refl };
 }
 
 /// Compares the tags first, and then the contents.

@@ -9,8 +9,8 @@ use crate::other_revocation_info_format::OtherRevocationInfoFormat;
 use der_core::describing::{LentField, ReadCase, Whole};
 use der_core::making::{cases_cmp, cases_tag};
 use der_core::{
-    Choice, Decode, DerOrd, Element, Encode, EncodeRef, Error, FirstTag, Implicit, ImplicitRef,
-    Length, Member, OneOf2, Reader, Shaped, ShapedValue, Tag, Writer, case,
+    AsRead, Choice, Decode, DerOrd, Element, Encode, EncodeRef, Error, FirstTag, Implicit,
+    ImplicitRef, Length, Member, OneOf2, Reader, Shaped, ShapedValue, Tag, Writer, case,
 };
 use std::alloc::Global;
 use std::cmp::Ordering;
@@ -93,6 +93,10 @@ impl Element for RevocationInfoChoice {
 
 impl Member for RevocationInfoChoice {
     ghost apart = { refl };
+}
+
+impl AsRead for RevocationInfoChoice {
+    ghost as_read = { λ _. refl };
 }
 
 /// Compares the tags first, and then the contents.

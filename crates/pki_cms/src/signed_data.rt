@@ -8,10 +8,8 @@ use crate::aliases::{
 };
 use crate::cms_version::CmsVersion;
 use crate::encapsulated_content_info::EncapsulatedContentInfo;
-use der_core::describing::{AsRecord, Described, FieldRow, RowUser, Rows};
-use der_core::{
-    DecodeFields, Error, Fields, Implicit, Reader, Shaped, ShapedValue, lend, read_row,
-};
+use der_core::describing::{AsRecord, Described, FieldRow, FieldsView, RowUser, Rows};
+use der_core::{DecodeFields, Error, Implicit, Reader, Shaped, ShapedValue, lend, read_row};
 use std::alloc::Global;
 
 /// ```text
@@ -54,10 +52,10 @@ impl Described for SignedData {
     type By = AsRecord;
 }
 
-impl Fields for SignedData {
-    ghost fields = { ⟦<Row as FieldRow>⟧.fields };
+impl FieldsView for SignedData {
+    ghost body = { ⟦<Row as FieldRow>⟧.fields };
 
-    ghost fields_plain = { λ r. (
+    ghost view = { λ r. (
       ⟦<CmsVersion as Shaped>⟧.plain r.version,
       (
         ⟦<DigestAlgorithmIdentifiers as Shaped>⟧.plain r.digest_algorithms,
@@ -68,23 +66,6 @@ impl Fields for SignedData {
             (
               plain_option ⟦<RevocationInfoChoices as ShapedValue>⟧.value_plain r.crls,
               (⟦<SignerInfos as Shaped>⟧.plain r.signer_infos, tt),
-            ),
-          ),
-        ),
-      ),
-    ) };
-
-    ghost fields_written = { λ r. (
-      ⟦<CmsVersion as Shaped>⟧.written r.version,
-      (
-        ⟦<DigestAlgorithmIdentifiers as Shaped>⟧.written r.digest_algorithms,
-        (
-          ⟦<EncapsulatedContentInfo as Shaped>⟧.written r.encap_content_info,
-          (
-            plain_option ⟦<CertificateSet as ShapedValue>⟧.value_written r.certificates,
-            (
-              plain_option ⟦<RevocationInfoChoices as ShapedValue>⟧.value_written r.crls,
-              (⟦<SignerInfos as Shaped>⟧.written r.signer_infos, tt),
             ),
           ),
         ),

@@ -10,8 +10,8 @@ use crate::issuer_and_serial_number::IssuerAndSerialNumber;
 use der_core::describing::{LentField, ReadCase, Whole};
 use der_core::making::{cases_cmp, cases_tag};
 use der_core::{
-    Choice, Decode, DerOrd, Element, Encode, EncodeRef, Error, FirstTag, Implicit, ImplicitRef,
-    Length, Member, OneOf2, Reader, Shaped, ShapedValue, Tag, Writer, case,
+    AsRead, Choice, Decode, DerOrd, Element, Encode, EncodeRef, Error, FirstTag, Implicit,
+    ImplicitRef, Length, Member, OneOf2, Reader, Shaped, ShapedValue, Tag, Writer, case,
 };
 use std::alloc::Global;
 use std::cmp::Ordering;
@@ -95,6 +95,10 @@ impl Element for SignerIdentifier {
 
 impl Member for SignerIdentifier {
     ghost apart = { refl };
+}
+
+impl AsRead for SignerIdentifier {
+    ghost as_read = { λ _. refl };
 }
 
 /// Compares the tags first, and then the contents.

@@ -4,8 +4,8 @@ ghost use Rattle.std.specs.Prelude.{refl};
 ghost use Rattle.der_core.specs.Grammar.{plain_option};
 
 use crate::response_data::ResponseData;
-use der_core::describing::{AsRecord, Described, FieldRow, RowUser, Rows};
-use der_core::{DecodeFields, Error, Explicit, Fields, Reader, Shaped, lend, read_row};
+use der_core::describing::{AsRecord, Described, FieldRow, FieldsView, RowUser, Rows};
+use der_core::{DecodeFields, Error, Explicit, Reader, Shaped, lend, read_row};
 use der_types::BitString;
 use std::alloc::Global;
 use x509_cert_reading::{AlgorithmIdentifier, CertificateInner, Raw};
@@ -40,27 +40,16 @@ impl Described for BasicOcspResponse {
     type By = AsRecord;
 }
 
-impl Fields for BasicOcspResponse {
-    ghost fields = { ⟦<Row as FieldRow>⟧.fields };
+impl FieldsView for BasicOcspResponse {
+    ghost body = { ⟦<Row as FieldRow>⟧.fields };
 
-    ghost fields_plain = { λ r. (
+    ghost view = { λ r. (
       ⟦<ResponseData as Shaped>⟧.plain r.tbs_response_data,
       (
         ⟦<AlgorithmIdentifier as Shaped>⟧.plain r.signature_algorithm,
         (
           ⟦<BitString as Shaped>⟧.plain r.signature,
           (plain_option ⟦<Vec<CertificateInner<Raw>> as Shaped>⟧.plain r.certs, tt),
-        ),
-      ),
-    ) };
-
-    ghost fields_written = { λ r. (
-      ⟦<ResponseData as Shaped>⟧.written r.tbs_response_data,
-      (
-        ⟦<AlgorithmIdentifier as Shaped>⟧.written r.signature_algorithm,
-        (
-          ⟦<BitString as Shaped>⟧.written r.signature,
-          (plain_option ⟦<Vec<CertificateInner<Raw>> as Shaped>⟧.written r.certs, tt),
         ),
       ),
     ) };

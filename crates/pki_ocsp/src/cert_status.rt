@@ -9,8 +9,8 @@ use crate::revoked_info::RevokedInfo;
 use der_core::describing::{LentField, ReadCase};
 use der_core::making::{cases_cmp, cases_tag};
 use der_core::{
-    Choice, Decode, DerOrd, Element, Encode, Error, FirstTag, Implicit, ImplicitRef, Length,
-    Member, OneOf3, Reader, Shaped, ShapedValue, Tag, Writer, case,
+    AsRead, Choice, Decode, DerOrd, Element, Encode, Error, FirstTag, Implicit, ImplicitRef,
+    Length, Member, OneOf3, Reader, Shaped, ShapedValue, Tag, Writer, case,
 };
 use std::alloc::Global;
 use std::cmp::Ordering;
@@ -99,6 +99,10 @@ impl Element for CertStatus {
 
 impl Member for CertStatus {
     ghost apart = { refl };
+}
+
+impl AsRead for CertStatus {
+    ghost as_read = { λ _. refl };
 }
 
 /// Compares the tags first, and then the contents.

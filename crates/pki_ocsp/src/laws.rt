@@ -1,4 +1,4 @@
-//! A law about the types. It is the contract of a function that does nothing.
+//! Laws about the types. Each law is the contract of a function that does nothing.
 
 ghost use Rattle.std.specs.Prelude.{◌≡◌, true};
 ghost use Rattle.der_core.specs.Limits.{levels_max};
@@ -35,4 +35,37 @@ pub fn types_are_within_levels()
     ensures single_response { are_enough ⟦<SingleResponse as Shaped>⟧.shape levels_max ≡ true }
     ensures tbs_request { are_enough ⟦<TbsRequest as Shaped>⟧.shape levels_max ≡ true }
     ensures version { are_enough ⟦<Version as Shaped>⟧.shape levels_max ≡ true }
+{}
+
+/// Values of these types are encoded as they are decoded. So the encoding of a value decodes to
+/// this value, if its parts are in range.
+pub fn values_are_encoded_as_decoded()
+    ensures acceptable_responses { ⟦<AcceptableResponses as Shaped>⟧.written
+        ≡ ⟦<AcceptableResponses as Shaped>⟧.plain }
+    ensures basic_ocsp_response { ⟦<BasicOcspResponse as Shaped>⟧.written
+        ≡ ⟦<BasicOcspResponse as Shaped>⟧.plain }
+    ensures cert_id { ⟦<CertId as Shaped>⟧.written ≡ ⟦<CertId as Shaped>⟧.plain }
+    ensures cert_status { ⟦<CertStatus as Shaped>⟧.written ≡ ⟦<CertStatus as Shaped>⟧.plain }
+    ensures crl_id { ⟦<CrlId as Shaped>⟧.written ≡ ⟦<CrlId as Shaped>⟧.plain }
+    ensures ocsp_request { ⟦<OcspRequest as Shaped>⟧.written ≡ ⟦<OcspRequest as Shaped>⟧.plain }
+    ensures ocsp_response { ⟦<OcspResponse as Shaped>⟧.written ≡ ⟦<OcspResponse as Shaped>⟧.plain }
+    ensures ocsp_response_status { ⟦<OcspResponseStatus as Shaped>⟧.written
+        ≡ ⟦<OcspResponseStatus as Shaped>⟧.plain }
+    ensures preferred_signature_algorithm { ⟦<PreferredSignatureAlgorithm as Shaped>⟧.written
+        ≡ ⟦<PreferredSignatureAlgorithm as Shaped>⟧.plain }
+    ensures preferred_signature_algorithms { ⟦<PreferredSignatureAlgorithms as Shaped>⟧.written
+        ≡ ⟦<PreferredSignatureAlgorithms as Shaped>⟧.plain }
+    ensures request { ⟦<Request as Shaped>⟧.written ≡ ⟦<Request as Shaped>⟧.plain }
+    ensures responder_id { ⟦<ResponderId as Shaped>⟧.written ≡ ⟦<ResponderId as Shaped>⟧.plain }
+    ensures response_bytes { ⟦<ResponseBytes as Shaped>⟧.written
+        ≡ ⟦<ResponseBytes as Shaped>⟧.plain }
+    ensures response_data { ⟦<ResponseData as Shaped>⟧.written ≡ ⟦<ResponseData as Shaped>⟧.plain }
+    ensures revoked_info { ⟦<RevokedInfo as Shaped>⟧.written ≡ ⟦<RevokedInfo as Shaped>⟧.plain }
+    ensures service_locator { ⟦<ServiceLocator as Shaped>⟧.written
+        ≡ ⟦<ServiceLocator as Shaped>⟧.plain }
+    ensures signature { ⟦<Signature as Shaped>⟧.written ≡ ⟦<Signature as Shaped>⟧.plain }
+    ensures single_response { ⟦<SingleResponse as Shaped>⟧.written
+        ≡ ⟦<SingleResponse as Shaped>⟧.plain }
+    ensures tbs_request { ⟦<TbsRequest as Shaped>⟧.written ≡ ⟦<TbsRequest as Shaped>⟧.plain }
+    ensures version { ⟦<Version as Shaped>⟧.written ≡ ⟦<Version as Shaped>⟧.plain }
 {}

@@ -5,8 +5,8 @@ ghost use Rattle.der_core.specs.Grammar.{plain_option};
 
 use crate::signature::Signature;
 use crate::tbs_request::TbsRequest;
-use der_core::describing::{AsRecord, Described, FieldRow, RowUser, Rows};
-use der_core::{DecodeFields, Error, Explicit, Fields, Reader, Shaped, lend, read_row};
+use der_core::describing::{AsRecord, Described, FieldRow, FieldsView, RowUser, Rows};
+use der_core::{DecodeFields, Error, Explicit, Reader, Shaped, lend, read_row};
 use std::alloc::Global;
 
 /// ```text
@@ -26,17 +26,12 @@ impl Described for OcspRequest {
     type By = AsRecord;
 }
 
-impl Fields for OcspRequest {
-    ghost fields = { ⟦<Row as FieldRow>⟧.fields };
+impl FieldsView for OcspRequest {
+    ghost body = { ⟦<Row as FieldRow>⟧.fields };
 
-    ghost fields_plain = { λ r. (
+    ghost view = { λ r. (
       ⟦<TbsRequest as Shaped>⟧.plain r.tbs_request,
       (plain_option ⟦<Signature as Shaped>⟧.plain r.optional_signature, tt),
-    ) };
-
-    ghost fields_written = { λ r. (
-      ⟦<TbsRequest as Shaped>⟧.written r.tbs_request,
-      (plain_option ⟦<Signature as Shaped>⟧.written r.optional_signature, tt),
     ) };
 }
 

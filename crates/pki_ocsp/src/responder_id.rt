@@ -9,8 +9,8 @@ use crate::aliases::KeyHash;
 use der_core::describing::{LentField, ReadCase};
 use der_core::making::{cases_cmp, cases_tag};
 use der_core::{
-    Choice, Decode, DerOrd, Element, Encode, EncodeRef, Error, Explicit, FirstTag, Length, Member,
-    OneOf2, Reader, Shaped, Tag, Writer, case,
+    AsRead, Choice, Decode, DerOrd, Element, Encode, EncodeRef, Error, Explicit, FirstTag, Length,
+    Member, OneOf2, Reader, Shaped, Tag, Writer, case,
 };
 use std::alloc::Global;
 use std::cmp::Ordering;
@@ -90,6 +90,10 @@ impl Element for ResponderId {
 
 impl Member for ResponderId {
     ghost apart = { refl };
+}
+
+impl AsRead for ResponderId {
+    ghost as_read = { λ _. refl };
 }
 
 /// Compares the tags first, and then the contents.

@@ -3,8 +3,8 @@
 ghost use Rattle.std.specs.Prelude.{refl};
 ghost use Rattle.der_core.specs.Grammar.{plain_option};
 
-use der_core::describing::{AsRecord, Described, FieldRow, RowUser, Rows};
-use der_core::{DecodeFields, Error, Explicit, Fields, Reader, Shaped, lend, read_row};
+use der_core::describing::{AsRecord, Described, FieldRow, FieldsView, RowUser, Rows};
+use der_core::{DecodeFields, Error, Explicit, Reader, Shaped, lend, read_row};
 use der_types::BitString;
 use std::alloc::Global;
 use x509_cert_reading::{AlgorithmIdentifier, CertificateInner, Raw};
@@ -34,22 +34,14 @@ impl Described for Signature {
     type By = AsRecord;
 }
 
-impl Fields for Signature {
-    ghost fields = { ⟦<Row as FieldRow>⟧.fields };
+impl FieldsView for Signature {
+    ghost body = { ⟦<Row as FieldRow>⟧.fields };
 
-    ghost fields_plain = { λ r. (
+    ghost view = { λ r. (
       ⟦<AlgorithmIdentifier as Shaped>⟧.plain r.signature_algorithm,
       (
         ⟦<BitString as Shaped>⟧.plain r.signature,
         (plain_option ⟦<Vec<CertificateInner<Raw>> as Shaped>⟧.plain r.certs, tt),
-      ),
-    ) };
-
-    ghost fields_written = { λ r. (
-      ⟦<AlgorithmIdentifier as Shaped>⟧.written r.signature_algorithm,
-      (
-        ⟦<BitString as Shaped>⟧.written r.signature,
-        (plain_option ⟦<Vec<CertificateInner<Raw>> as Shaped>⟧.written r.certs, tt),
       ),
     ) };
 }
