@@ -14,6 +14,8 @@ Each PART prints what it counts. A run of all parts writes the page and bench/sp
   tool     runs `cert_tool` and `cert_desk`: describe and show each root, verify and check a chain
   pieces   reads a stream of 10,000 certificates in one piece, in pieces of 1,000 bytes and byte by
            byte, compared with a program that keeps the certificates with a copy of their bytes
+  messages decodes OCSP requests and responses, signed messages, keys and timestamps, which OpenSSL
+           makes, with the crates pki_* and with OpenSSL
 
 valgrind counts (bench/README.md). A program of bench/PART is proved and built in a copy of the
 crates, which takes the libraries that CLONE has built (`out/rlib`); `cert_tool` and
@@ -33,7 +35,7 @@ import time
 
 HERE = pathlib.Path(__file__).resolve().parent
 TOP = HERE.parent
-sys.path.insert(0, str(TOP / "tools"))
+sys.path[:0] = [str(TOP / "tools"), str(TOP / "tests/asn1")]
 
 import needs
 import release
@@ -58,6 +60,15 @@ EARLIER = (
     ("decode a root into a `Bundle`, and validate it", "bundle, decoded and validated",
      "decoding a root", "x509_cert, decoded", 1.34),
     ("`cert_tool verify` of a chain of four", "verify", "`cert_desk check`", "check", 1.3),
+)
+
+# What the part `messages` decodes: the kind, and the name of a file of tests/asn1/by_openssl.py.
+MESSAGES = (
+    ("decode an OCSP request for three certificates", "request", "request_nonce"),
+    ("decode an OCSP response with a certificate", "response", "response_name"),
+    ("decode a signed message with two certificates", "message", "signed"),
+    ("decode a private key", "key", "key"),
+    ("decode a timestamp response with a certificate", "timestamp", "timestamp"),
 )
 
 
@@ -291,7 +302,26 @@ def pieces(bench):
     bench.counts["kept"], bench.counts["fed"] = (kept, None), (max(fed), None)
 
 
-PARTS = {it.__name__: it for it in (roots, chains, show, tool, pieces)}
+def messages(bench):
+    import by_openssl
+
+    libraries = "pki_timestamps pki_cms pki_ocsp pki_key_containers der_core"
+    program = bench.program("message_reads", "messages", libraries)
+    wrapped = "-Wl,--wrap=OSSL_DECODER_CTX_new_for_pkey", "-l:libcrypto.a"
+    openssl = bench.compiled("messages/openssl.c", *wrapped)
+    folder = bench.work / "messages"
+    folder.mkdir()
+    by_openssl.make(folder)
+    for _, kind, name in MESSAGES:
+        file = folder / name
+        ours, theirs = (said(it, kind, file, 1).decode().strip() for it in (program, openssl))
+        bench.say(f"{name}: {file.stat().st_size} bytes, decoded: {ours}, OpenSSL: {theirs}")
+        bench.count(f"{name}, pki", 1, [program, kind, file, None])
+        bench.count(f"{name}, OpenSSL", 1, [openssl, kind, file, None])
+        bench.count(f"{name}, OpenSSL with keys", 1, [openssl, kind, file, None, "keys"])
+
+
+PARTS = {it.__name__: it for it in (roots, chains, show, tool, pieces, messages)}
 
 
 def cells(count):
@@ -308,10 +338,9 @@ def page(bench):
     mbedtls = first_line("dpkg-query", "-W", "-f", "${Version}\n", "libmbedtls-dev")
     openssl = first_line("openssl", "version").split(" ")[1]
     kept, fed = (bench.counts[it][0] for it in ("kept", "fed"))
-    ratios, missed = {}, []
+    ratios, missed, pair = {}, [], "Instructions | Allocations"
 
     def table(rows):
-        pair = "Instructions | Allocations"
         yield f"| Task | {pair} | Compared with | {pair} | Ratio | Target | Met |"
         yield "|---|---|---|---|---|---|---|---|---|"
         for task, name, beside, other, most in rows:
@@ -327,6 +356,14 @@ def page(bench):
     targets = f"{tasks} missed the target (**no** in the tables): {', '.join(missed)}"
     targets = targets if missed else "all tasks met them"
     whole, alone, chain, shown = (f"{100 - 100 * ratios[row[1]]:.0f} %" for row in OTHERS)
+    messages, times = [], []
+    for task, _, name in MESSAGES:
+        counts = [bench.counts[f"{name}, {it}"] for it in ("pki", "OpenSSL", "OpenSSL with keys")]
+        times.append(counts[0][0] / counts[1][0])
+        columns = task, cells(counts[0]), cells(counts[1]), f"{times[-1]:.3f}", cells(counts[2])
+        messages.append(f"| {' | '.join(columns)} |")
+    messages = "\n".join(messages)
+    least, most = (f"{100 - 100 * it:.0f} %" for it in (max(times), min(times)))
     return f"""# Speed
 
 This page compares how many instructions Wurstdrape and other software execute for the same task. It
@@ -341,6 +378,9 @@ These figures are those of [commit {commit}](#how-this-was-measured), and not of
   Neither side verifies signatures or computes digests.
 - **Printing** a root took {shown} fewer instructions than with OpenSSL. Both print the same
   [parts](README.md#method).
+- **Decoding messages, keys and timestamps** took {least} to {most} fewer instructions than with
+  OpenSSL, without the public keys of certificates, which OpenSSL also
+  [decodes](README.md#method).
 - **Targets**: {targets}.
 
 Wurstdrape wasn't compared with Rust crates.
@@ -353,6 +393,15 @@ and what a target is.
 ## Compared with other software
 
 {others}
+
+## Compared with OpenSSL: messages, keys and timestamps
+
+The first pair of columns is of Wurstdrape. The second is of OpenSSL without the public keys of
+certificates, and the ratio is between these two. The last pair is of OpenSSL with the keys.
+
+| Task | {pair} | {pair} | Ratio | {pair} |
+|---|---|---|---|---|---|---|---|
+{messages}
 
 ## Compared with version 0.10.0, and with itself
 

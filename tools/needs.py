@@ -22,7 +22,7 @@ PACKAGES = {
 # What each script needs: commands, paths, and Python modules.
 NEEDS = {
     "bench/gate.py": "rt",
-    "bench/speed.py": "rt gcc openssl valgrind /usr/bin/time /usr/include/mbedtls "
+    "bench/speed.py": "rt gcc openssl valgrind cryptography /usr/bin/time /usr/include/mbedtls "
                       "/usr/include/openssl /usr/share/ca-certificates/mozilla",
     "bindings/build.sh": "rt cc ld",
     "bindings/test.sh": "cc pkg-config",
