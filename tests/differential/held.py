@@ -58,7 +58,8 @@ OF_POLICIES = {
     "2.5.29.54": "inhibitAnyPolicy",
 }
 NEVER_JUDGED = {"2.5.29.30": "nameConstraints"} | OF_POLICIES
-OF_THE_LAST = NEVER_JUDGED | {"2.5.29.15": "keyUsage"}
+KEY_USAGE = {"2.5.29.15": "keyUsage"}
+OF_THE_LAST = NEVER_JUDGED | KEY_USAGE
 OF_ANCHORS = OF_THE_LAST | {"2.5.29.19": "basicConstraints", "2.5.29.37": "extKeyUsage"}
 OTHERS = ["2.5.29.14", "2.5.29.17", "2.5.29.31", "2.5.29.35", "1.2.3.4"]
 PURPOSES = {"serverAuth": ("sslserver", 1), "clientAuth": ("sslclient", 2)}
@@ -251,7 +252,14 @@ def compare_unjudged(verifier):
             "certificates": [names(it, OF_POLICIES) for _, it in chain],
             "anchors": [names(it, OF_POLICIES) for it in named],
         }
-        for words, expected in [((), theirs), (("--strict",), strict)]:
+        # RFC 5280 lists no bits of keyUsage for this purpose, so nothing checks the end entity's.
+        of_the_last = names(chain[-1][1], OF_POLICIES | KEY_USAGE)
+        other = strict | {"certificates": [*strict["certificates"][:-1], of_the_last]}
+        for words, expected in [
+            ((), theirs),
+            (("--strict",), strict),
+            (("--strict", "--purpose", "1.2.3.4"), other),
+        ]:
             words = ("--at", "1780000000", "--json", *words)
             _, output = verifier.ask(root, [octets for octets, _ in chain], *words)
             report.compare(json.loads(output)["unjudged"], expected, (), anchors, chain, words)

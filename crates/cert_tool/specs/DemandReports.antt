@@ -110,6 +110,7 @@ IsReportedWith unjudged terms answers octets cs out err checked answer =
 abbrev pub IsChainReported : Terms → Answers → List ℕ → List PlainCertificate → Device → Device
     → Checked → Status → Type 0
 IsChainReported terms answers octets cs out err checked answer =
-    ((unjudged : List ℕ) × IsUnjudgedIf terms.is_json terms.demands.is_strict octets cs unjudged
+    ((unjudged : List ℕ)
+    × IsUnjudgedIf terms.is_json terms.demands.is_strict terms.purpose octets cs unjudged
     × IsReportedWith unjudged terms answers octets cs out err checked answer)
     ⊎ (Untouched out × Exits (IsMemoryTold err) answer)

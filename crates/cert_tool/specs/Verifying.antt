@@ -54,10 +54,12 @@ IsMissingAnswersReported err reasons.Device answer = IsDeviceTold err answer
 IsMissingAnswersReported err reasons.OutOfMemory answer = IsMemoryTold err answer
 
 -- The member `unjudged` of a JSON object: what no rule checks in a chain and in the trust anchors
--- that these bytes encode, nor `--strict` if it is given. A line has no such member.
-abbrev pub IsUnjudgedIf : Bool → Bool → List ℕ → List PlainCertificate → List ℕ → Type 0
-IsUnjudgedIf true strict octets cs unjudged = IsUnjudgedText strict octets cs unjudged
-IsUnjudgedIf false strict octets cs unjudged = unjudged ≡ []
+-- that these bytes encode, nor `--strict` for this key purpose, if it is given. A line has no such
+-- member.
+abbrev pub IsUnjudgedIf : Bool → Bool → List ℕ → List ℕ → List PlainCertificate → List ℕ → Type 0
+IsUnjudgedIf true strict purpose octets cs unjudged =
+    IsUnjudgedText strict purpose octets cs unjudged
+IsUnjudgedIf false strict purpose octets cs unjudged = unjudged ≡ []
 
 -- The JSON object (RFC 8259) of a chain that is rejected for this reason.
 abbrev pub refused_json : ℕ → List ℕ → ℕ → List ℕ → List ℕ

@@ -169,15 +169,20 @@ fn unjudged_if(
     alloc: Global,
     octets: &[u8],
     bundle: &Bundle,
-    json: bool,
-    is_strict: bool,
+    terms: &Terms<'_>,
 ) -> Result<String, AllocError>
     requires { length octets.now ≤ most_octets }
-    ensures { IfOk result (λ text.
-        IsUnjudgedIf json is_strict octets.now bundle.now.certificates (string_bytes text)) }
+    ensures { IfOk result (λ text. IsUnjudgedIf terms.now.is_json terms.now.demands.is_strict
+        terms.now.purpose octets.now bundle.now.certificates (string_bytes text)) }
 {
-    if json {
-        unjudged_text(alloc, octets, bundle, is_strict)
+    if terms.is_json {
+        unjudged_text(
+            alloc,
+            octets,
+            bundle,
+            terms.demands.is_strict,
+            &terms.purpose,
+        )
     } else {
         Ok(String::new(alloc))
     }
@@ -241,8 +246,7 @@ pub(crate) fn report_chain<O: Output, E: Output>(
         bundle.now.certificates (sink O.gives O.failures out.old out.new)
         (sink E.gives E.failures err.old err.new) checked result }
 {
-    let is_strict = terms.demands.is_strict;
-    match unjudged_if(alloc, octets, bundle, terms.is_json, is_strict) {
+    match unjudged_if(alloc, octets, bundle, terms) {
         Ok(unjudged) => report_with(
             alloc,
             octets,

@@ -29,7 +29,7 @@ use cert_tool_explain::desk_io::{
 use cert_tool_explain::desk_rules::{Answer, AnswersJudge, Verdict};
 use cert_tool_explain::tool_lines::Lines;
 use cert_tool_explain::{Report, SignedAnswers, ValidatedChain, add_chain, are_kept};
-use cert_tool_limits::{DemandResult, hold};
+use cert_tool_limits::{DemandResult, hold, needs_use};
 use std::alloc::{AllocError, Global};
 
 // Returns the explanation of a validated chain: the rules that each certificate breaks, and whether
@@ -109,6 +109,7 @@ fn explained(
         heard: &heard,
         purpose,
         is_strict: terms.demands.is_strict,
+        checks_key_usage: terms.demands.is_strict && needs_use(purpose),
     };
     let held = demand_result_if(alloc, bundle, anchor_octets, terms, &mut judge)?;
     let explained = told(alloc, bundle, &judged, held, terms.is_json)?;

@@ -44,6 +44,8 @@ pub struct ValidatedChain<'a> {
     pub purpose: &'a ObjectIdentifier<39>,
     /// Whether `--strict` is given.
     pub is_strict: bool,
+    /// Whether `--strict` is given and checks the key usage of the end entity for this key purpose.
+    pub checks_key_usage: bool,
 }
 
 // Returns whether a certificate keeps every rule.
@@ -235,7 +237,7 @@ fn add_entries_of_chain(
             let twin = serial_numbers.take(lines, &place);
             begin_place(lines, &place);
             add_breaches(lines, &place, kept, lengths, judged);
-            add_unchecked_extensions(lines, &place, judged.is_strict);
+            add_unchecked_extensions(lines, &place, judged.is_strict, judged.checks_key_usage);
             let reported = malformed_extension(lines, &place, kept, judged.purpose);
             add_remarks(lines, &place, twin, reported);
             end_details(lines);

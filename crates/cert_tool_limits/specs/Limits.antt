@@ -61,6 +61,10 @@ is_consistent purpose set =
     has_use uses_of.digital_signature set || has_use uses_of.non_repudiation set
     else true
 
+-- RFC 5280 4.2.1.12 lists bits for the purpose, so keyUsage without bits isn't consistent with it.
+abbrev pub needs_use : List ℕ → Bool
+needs_use purpose = not (is_consistent purpose 0)
+
 -- The decoded content of keyUsage is consistent with the purpose.
 abbrev pub allows_as : List ℕ → Meaning → Bool
 allows_as purpose (uses set) = is_consistent purpose set

@@ -17,6 +17,7 @@ use Rattle.cert_tool_limits.specs.declared.unjudged.Role.{Role}
 use Rattle.cert_tool_limits.specs.declared.unjudged.Role.TheVariants as roles
 use Rattle.cert_tool_limits.specs.AnchorRules.{anchor_extensions, anchor_tbs}
 use Rattle.cert_tool_limits.specs.Choices.{AreChoices}
+use Rattle.cert_tool_limits.specs.Limits.{needs_use}
 
 -- The name of an extension on policies (RFC 5280 4.2.1.4, 4.2.1.5, 4.2.1.11, 4.2.1.14), which
 -- neither a rule nor a limit checks.
@@ -36,9 +37,11 @@ never_judged e = if is_ce 30 e then Some (codes "nameConstraints") else policies
 -- The name of an extension that isn't checked in a certificate with this role. The rules check
 -- keyUsage (4.2.1.3) only in issuers, and nothing but the name and the key in trust anchors, whose
 -- basicConstraints (4.2.1.9) and extKeyUsage (4.2.1.12) have names here, too. The strict limits
--- check all of these but the policies, for any role.
+-- check all of these but the policies and, for some key purposes, the keyUsage of the end entity.
 abbrev pub unjudged_name : Role → PlainExtension → Option (List ℕ)
 unjudged_name roles.Strict e = policies_name e
+unjudged_name roles.StrictEndEntity e =
+    if is_ce 15 e then Some (codes "keyUsage") else policies_name e
 unjudged_name roles.Issuer e = never_judged e
 unjudged_name roles.EndEntity e =
     if is_ce 15 e then Some (codes "keyUsage") else never_judged e
@@ -69,22 +72,27 @@ and_names role items es = fold (λ so_far e. and_name so_far (unjudged_name role
 abbrev pub array : List ℕ → List ℕ
 array items = codes "[" ++ items ++ codes "]"
 
--- The role of a certificate of a chain, which may be the last one, with or without strict limits.
-abbrev pub role_in : Bool → Bool → Role
-role_in true is_last = roles.Strict
-role_in false true = roles.EndEntity
-role_in false false = roles.Issuer
+-- The role of a certificate of a chain, which may be the last one, with or without strict limits,
+-- for this key purpose. The strict limits check the keyUsage of the last one only for a purpose for
+-- which RFC 5280 lists bits.
+abbrev pub role_in : Bool → List ℕ → Bool → Role
+role_in true purpose true = if needs_use purpose then roles.Strict else roles.StrictEndEntity
+role_in true purpose false = roles.Strict
+role_in false purpose true = roles.EndEntity
+role_in false purpose false = roles.Issuer
 
 -- What isn't checked in a certificate of a chain.
-abbrev pub unjudged_in : Bool → Bool → PlainCertificate → List ℕ
-unjudged_in strict is_last c = array (and_names (role_in strict is_last) [] (extensions_of c))
+abbrev pub unjudged_in : Bool → List ℕ → Bool → PlainCertificate → List ℕ
+unjudged_in strict purpose is_last c =
+    array (and_names (role_in strict purpose is_last) [] (extensions_of c))
 
 -- The elements so far and one array for each certificate. The last one is the end entity's.
-abbrev pub and_certificates : Bool → List ℕ → List PlainCertificate → List ℕ
-and_certificates strict items [] = items
-and_certificates strict items (c ∷ []) = and_item items (unjudged_in strict true c)
-and_certificates strict items (c ∷ d ∷ cs) =
-    and_certificates strict (and_item items (unjudged_in strict false c)) (d ∷ cs)
+abbrev pub and_certificates : Bool → List ℕ → List ℕ → List PlainCertificate → List ℕ
+and_certificates strict purpose items [] = items
+and_certificates strict purpose items (c ∷ []) =
+    and_item items (unjudged_in strict purpose true c)
+and_certificates strict purpose items (c ∷ d ∷ cs) =
+    and_certificates strict purpose (and_item items (unjudged_in strict purpose false c)) (d ∷ cs)
 
 -- What isn't checked in a trust anchor. Without strict limits, the validity period (4.1.2.5) comes
 -- first, if the trust anchor is a certificate.
@@ -123,11 +131,12 @@ unjudged_member certificates anchors =
 
 -- The member `unjudged` of a JSON object: an array for each certificate, and one for each trust
 -- anchor that has the name of the first certificate's issuer.
-abbrev pub unjudged_text : Bool → List PlainCertificate → List PlainChoice → List ℕ
-unjudged_text strict cs anchors =
-    unjudged_member (and_certificates strict [] cs) (anchors_text strict cs anchors)
+abbrev pub unjudged_text : Bool → List ℕ → List PlainCertificate → List PlainChoice → List ℕ
+unjudged_text strict purpose cs anchors =
+    unjudged_member (and_certificates strict purpose [] cs) (anchors_text strict cs anchors)
 
 -- The text is that member, for the trust anchors of a file.
-abbrev pub IsUnjudgedText : Bool → List ℕ → List PlainCertificate → List ℕ → Type 0
-IsUnjudgedText strict octets cs text = (anchors : List PlainChoice) × AreChoices octets anchors
-    × (text ≡ unjudged_text strict cs anchors)
+abbrev pub IsUnjudgedText : Bool → List ℕ → List ℕ → List PlainCertificate → List ℕ → Type 0
+IsUnjudgedText strict purpose octets cs text =
+    (anchors : List PlainChoice) × AreChoices octets anchors
+    × (text ≡ unjudged_text strict purpose cs anchors)

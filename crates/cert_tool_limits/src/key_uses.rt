@@ -7,7 +7,7 @@ ghost use Rattle.x509_cert_anchors.specs.CertParts.Views.{extension_plain, exten
 ghost use Rattle.cert_desk_bundle.specs.Oid.Comparing.{owned_eq};
 ghost use Rattle.cert_desk_rules.specs.Weighing.{is_ce, key_usage_in, meaning_of, uses};
 ghost use Rattle.cert_tool_limits.specs.Limits.{allows, allows_as, allows_purpose, id_kp};
-ghost use Rattle.cert_tool_limits.specs.Limits.{is_consistent};
+ghost use Rattle.cert_tool_limits.specs.Limits.{is_consistent, needs_use};
 
 use cert_desk_bundle::cert_certificates::CertificateInner;
 use cert_desk_bundle::cert_parts::{Extension, Raw};
@@ -57,6 +57,14 @@ fn is_consistent(purpose: &ObjectIdentifier<39>, uses: KeyUsage) -> bool
         return uses.digital_signature() || uses.non_repudiation();
     }
     true
+}
+
+/// Returns whether RFC 5280 4.2.1.12 lists bits of keyUsage for a key purpose. If it lists none,
+/// any bits are consistent with the purpose.
+pub fn needs_use(purpose: &ObjectIdentifier<39>) -> bool
+    ensures { result ≡ needs_use purpose.now }
+{
+    !is_consistent(purpose, KeyUsage(FlagSet::empty()))
 }
 
 // Returns whether the content of keyUsage is consistent with a key purpose.

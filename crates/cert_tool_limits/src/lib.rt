@@ -17,7 +17,7 @@ pub use choices::choices_in;
 pub use demands::{DemandResult, Demands, Unmet, first_unmet, hold};
 pub use ending::{anchors_end, first_ending};
 pub use host_names::is_for_host;
-pub use key_uses::allows_purpose;
+pub use key_uses::{allows_purpose, needs_use};
 pub use limit::Limit;
 pub use name_constraints::first_constraints;
 pub use unjudged::unjudged_text;

@@ -18,20 +18,23 @@ ghost use Rattle.cert_tool_limits.specs.Unjudged.{unjudged_in_anchor, unjudged_m
 
 use crate::anchor_rules::{extensions_of as anchor_extensions, signed_of};
 use crate::choices::choices_in;
-use crate::key_uses::is_ce;
+use crate::key_uses::{is_ce, needs_use};
 use cert_desk_bundle::Bundle;
 use cert_desk_bundle::cert_certificates::CertificateInner;
 use cert_desk_bundle::cert_parts::{Extension, Raw};
+use cert_desk_bundle::oid::ObjectIdentifier;
 use cert_desk_checking::is_issued_by;
 use cert_desk_rules::extensions_of;
 use std::alloc::{AllocError, Global};
 use x509_cert_anchors::TrustAnchorChoice;
 use x509_cert_anchors::cert_names::Name;
 
-// The role of a certificate in path validation, or any role under the strict limits.
+// The role of a certificate in path validation. `Strict` is any role under the strict limits,
+// except that of an end entity whose keyUsage they don't check, which is `StrictEndEntity`.
 #[derive(Clone, Copy)]
 enum Role {
     Strict,
+    StrictEndEntity,
     TrustAnchor,
     Issuer,
     EndEntity,
@@ -73,6 +76,12 @@ fn unjudged_name(extension: &Extension, role: Role) -> Option<&'static str>
 {
     match role {
         Role::Strict => return policies_name(extension),
+        Role::StrictEndEntity => {
+            if is_ce(extension, 15) {
+                return Some("keyUsage");
+            }
+            return policies_name(extension);
+        }
         Role::Issuer => {}
         Role::EndEntity => {
             if is_ce(extension, 15) {
@@ -133,9 +142,12 @@ fn add_names(
 }
 
 // Returns the role of a certificate of a chain.
-fn role_in(is_strict: bool, is_last: bool) -> Role
-    ensures { result ≡ role_in is_strict is_last }
+fn role_in(is_strict: bool, purpose: &ObjectIdentifier<39>, is_last: bool) -> Role
+    ensures { result ≡ role_in is_strict purpose.now is_last }
 {
+    if is_strict && is_last && !needs_use(purpose) {
+        return Role::StrictEndEntity;
+    }
     if is_strict {
         return Role::Strict;
     }
@@ -150,12 +162,13 @@ fn unjudged_in(
     alloc: Global,
     certificate: &CertificateInner<Raw>,
     is_strict: bool,
+    purpose: &ObjectIdentifier<39>,
     is_last: bool,
 ) -> Result<String, AllocError>
     ensures { IfOk result (λ text. string_bytes text
-        ≡ unjudged_in is_strict is_last (certificate_plain certificate.now)) }
+        ≡ unjudged_in is_strict purpose.now is_last (certificate_plain certificate.now)) }
 {
-    let role = role_in(is_strict, is_last);
+    let role = role_in(is_strict, purpose, is_last);
     let mut items = String::new(alloc);
     add_names(alloc, &mut items, extensions_of(certificate), role)?;
     let items = items.as_str();
@@ -163,15 +176,21 @@ fn unjudged_in(
 }
 
 // Returns the arrays of the certificates of a chain.
-fn certificates_text(alloc: Global, bundle: &Bundle, is_strict: bool) -> Result<String, AllocError>
+fn certificates_text(
+    alloc: Global,
+    bundle: &Bundle,
+    is_strict: bool,
+    purpose: &ObjectIdentifier<39>,
+) -> Result<String, AllocError>
     ensures { IfOk result (λ text. string_bytes text
-        ≡ and_certificates is_strict [] bundle.now.certificates) }
+        ≡ and_certificates is_strict purpose.now [] bundle.now.certificates) }
 {
     let len = bundle.len();
     let mut items = String::new(alloc);
     for place in 0..len {
         let entry = bundle.get(place).unwrap();
-        let item = unjudged_in(alloc, entry.certificate, is_strict, place + 1 == len)?;
+        let is_last = place + 1 == len;
+        let item = unjudged_in(alloc, entry.certificate, is_strict, purpose, is_last)?;
         add_item(&mut items, item.as_str())?;
     }
     Ok(items)
@@ -290,7 +309,7 @@ fn unjudged_member(alloc: Global, certificates: &str, anchors: &str) -> Result<S
 /// Returns the member `unjudged` of a JSON object: what isn't checked in each certificate of a
 /// chain, and in each trust anchor of a file that has the name of the first certificate's issuer.
 /// `octets` is the file of the trust anchors under which the chain was validated. If `is_strict`,
-/// the strict limits check the chain, too.
+/// the strict limits check the chain, too, for this key purpose.
 ///
 /// # Errors
 ///
@@ -300,16 +319,17 @@ pub fn unjudged_text(
     octets: &[u8],
     bundle: &Bundle,
     is_strict: bool,
+    purpose: &ObjectIdentifier<39>,
 ) -> Result<String, AllocError>
     requires { Fits octets.now }
-    ensures { IfOk result (λ text.
-        IsUnjudgedText is_strict octets.now bundle.now.certificates (string_bytes text)) }
+    ensures { IfOk result (λ text. IsUnjudgedText is_strict purpose.now octets.now
+        bundle.now.certificates (string_bytes text)) }
 {
     // The bytes were decoded before, so the only possible error is that memory runs out.
     let Ok(anchors) = choices_in(alloc, octets) else {
         return Err(AllocError);
     };
-    let certificates = certificates_text(alloc, bundle, is_strict)?;
+    let certificates = certificates_text(alloc, bundle, is_strict, purpose)?;
     let named = first_anchors_text(alloc, bundle, anchors.as_slice(), is_strict)?;
     let (of_certificates, of_anchors) = (certificates.as_str(), named.as_str());
     let text = unjudged_member(alloc, of_certificates, of_anchors)?;

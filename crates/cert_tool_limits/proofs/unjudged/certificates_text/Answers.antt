@@ -14,9 +14,10 @@ loop-place-preserved c =
     let this = certificate_plain c.unwrap-entry.result.certificate.now in
     let before = string_bytes c.loop-place.items in
     let strict = c.args.is_strict in
+    let purpose = c.args.purpose.now in
     let entry = entry_at Bound cs place _ _ c.get.ensures.entry c.unwrap-entry.ensures in
-    let item = c.as_str.ensures.value ∙ c.in_ok-item.ensures ∙ ap (λ n. unjudged_in strict ((place + 1) == n) this) c.len-len.ensures in
+    let item = c.as_str.ensures.value ∙ c.in_ok-item.ensures ∙ ap (λ n. unjudged_in strict purpose ((place + 1) == n) this) c.len-len.ensures in
     let added = c.in_ok-add_item.ensures ∙ ap (and_item before) item in
     record {
-      left = ap (λ w. and_certificates strict w (drop (place + 1) cs)) added ∙ sym (certificates_more strict before cs place this entry.certificate) ∙ c.loop-place.invariant.left;
+      left = ap (λ w. and_certificates strict purpose w (drop (place + 1) cs)) added ∙ sym (certificates_more strict purpose before cs place this entry.certificate) ∙ c.loop-place.invariant.left;
     }

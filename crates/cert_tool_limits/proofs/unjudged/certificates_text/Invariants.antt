@@ -5,5 +5,5 @@ use Rattle.cert_tool_limits.proofs.unjudged.certificates_text.Given as goal
 
 abbrev pub invariant-loop-place : goal.invariant-loop-place
 invariant-loop-place l = record {
-  left : and_certificates l.is_strict (string_bytes l.items) (drop l.place l.bundle.certificates) ≡ and_certificates l.is_strict [] l.bundle.certificates;
+  left : and_certificates l.is_strict l.purpose (string_bytes l.items) (drop l.place l.bundle.certificates) ≡ and_certificates l.is_strict l.purpose [] l.bundle.certificates;
 }

@@ -11,5 +11,5 @@ returns c =
     let named = c.as_str-of_anchors.ensures.value ∙ c.in_ok-named.ensures ∙ ap (λ anchors. anchors_text c.args.is_strict cs (map trust_anchor_plain anchors)) c.as_slice.ensures.value in (
       map trust_anchor_plain c.in-Ok.anchors.items,
       c.in-Ok.ensures.read,
-      c.in_ok-text.ensures ∙ ap (λ w. unjudged_member w c.as_str-of_anchors.result.now) certificates ∙ ap (unjudged_member (and_certificates c.args.is_strict [] cs)) named,
+      c.in_ok-text.ensures ∙ ap (λ w. unjudged_member w c.as_str-of_anchors.result.now) certificates ∙ ap (unjudged_member (and_certificates c.args.is_strict c.args.purpose.now [] cs)) named,
     )
