@@ -17,7 +17,9 @@ import tempfile
 
 import sources
 
-FACADES = ("const_oid", "der_core", "der_types", "x509_cert", "cert_desk")
+FACADES = ("const_oid", "der_core", "der_types", "x509_cert", "cert_desk",
+           "x509_cert_reading", "der_types_more", "pki_key_containers", "pki_ocsp", "pki_cms",
+           "pki_timestamps")
 # Neither the items by which types are declared are promised, nor items that are re-exported for
 # crates above, nor the path from which a crate imports a name.
 OTHERS = ("der_core::making", "der_core::describing", "der_core::oid",

@@ -4,7 +4,7 @@ ghost use Rattle.std.specs.Prelude.{◌≡◌, map, option_map};
 ghost use Rattle.cert_tool.specs.Help.{help_for, help_of};
 
 // The output of `--version`.
-pub(crate) const VERSION: &str = "cert_tool 1.0.0+\n";
+pub(crate) const VERSION: &str = "cert_tool 2.0.0\n";
 
 // The help for the program as a whole.
 const USAGE: &str = "usage: cert_tool COMMAND OPTIONS FILE, where COMMAND is one of
