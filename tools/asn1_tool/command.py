@@ -66,6 +66,8 @@ def sources(words, report):
     except Refused as refused:
         report.error(refused.line, refused.reason)
         return {}, []
+    except OSError as error:
+        sys.exit(f"tools/asn1: cannot read {error.filename}: {error.strerror}")
 
 
 def old_files(folder):
