@@ -198,8 +198,9 @@ def read(release, whole=True):
     """Returns PROVED of a release. Stops at the first file that differs from SUMS or PROVED.
 
     If `whole` is false, only PROVED and SUMS are required."""
-    if not (release / "SUMS").is_file():
-        stop(f"{release} isn't a release: it has no file SUMS")
+    for name in ("SUMS", "PROVED"):
+        if not (release / name).is_file():
+            stop(f"{release} isn't a release: it has no file {name}")
     wanted, there = sums((release / "SUMS").read_text(errors="replace")), sums(listing(release))
     del there["SUMS"]
     for path in sorted(wanted.keys() | there.keys()):

@@ -70,8 +70,10 @@ def main():
     unknown = [name for name in given.names if name not in crates]
     if unknown:
         words.error(f"this repository has no crate {unknown[0]}")
+    # What can't be installed is reported before anything is written.
     if given.release:
         release.same_kit(release.read(given.release))
+        release.asked("zstd", "--version")
     lines = {name: rows[name] for name in sources.closure(given.names)}
     parts = ["src", "specs", "proofs", *["must-fail"] * given.edits]
     taken = take(lines, given.folder, given.again, parts)
