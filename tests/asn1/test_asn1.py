@@ -154,7 +154,8 @@ class Test(unittest.TestCase):
         self.assertEqual(written(self.folder / "crates"), before)
 
     def test_again(self):
-        """--check lists changed files, and a new run removes files that are no longer written."""
+        """--check lists changed files, and a new run removes files that are no longer written, but
+        no other files."""
         module, crate = self.folder / "m.asn1", self.folder / "m"
         types = "A ::= ENUMERATED { a } B ::= SEQUENCE { a A }"
         module.write_text(f"M DEFINITIONS ::= BEGIN {types} END")
@@ -163,11 +164,15 @@ class Test(unittest.TestCase):
         (crate / "src" / "a.rt").write_text("")
         changed = ["m/src/a.rt: not as tools/asn1 writes it"]
         self.assertEqual(run(module, crate, "--check")[:2], (1, changed))
+        own = crate / "proofs/own/Answers.antt"
+        own.parent.mkdir()
+        own.write_text("")
         module.write_text("M DEFINITIONS ::= BEGIN A ::= ENUMERATED { a } END")
         self.assertEqual(run(module, crate, "--check")[0], 1)
         run(module, crate)
         left = sorted(it.name for it in (crate / "src").iterdir())
         self.assertEqual(left, ["a.rt", "laws.rt", "lib.rt"])
+        self.assertTrue(own.exists())
 
     def test_crates_line(self):
         """The tool prints the line for crates.txt."""
