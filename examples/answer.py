@@ -31,7 +31,8 @@ try:
     from cryptography.hazmat.primitives.asymmetric import ec, padding
     from cryptography.hazmat.primitives.serialization import load_der_public_key
 except ImportError:
-    print(f"{sys.argv[0]} needs cryptography: apt install python3-cryptography", file=sys.stderr)
+    print(f"{sys.argv[0]}: {sys.executable} lacks cryptography; for /usr/bin/python3: "
+          "apt install python3-cryptography", file=sys.stderr)
     sys.exit(2)
 
 NAME = sys.argv[0].rpartition("/")[2]
