@@ -61,6 +61,21 @@ EARLIER = (
      "decoding a root", "x509_cert, decoded", 1.34),
     ("`cert_tool verify` of a chain of four", "verify", "`cert_desk check`", "check", 1.3),
 )
+# What version 1.0.0 took: the task, the name of its count, and the instructions and allocations.
+RELEASED = (
+    ("decode a root", "x509_cert, decoded", (9234, 9.35)),
+    ("decode a root, with the extensions that the rules use", "x509_cert, extensions decoded",
+     (11897, 9.42)),
+    ("encode a root", "encoded", (8662, 1)),
+    ("decode a root into a `Bundle`, and validate it", "bundle, decoded and validated",
+     (11903, 11.39)),
+    ("validate a chain of four", "cert_desk_checking", (5489, 2)),
+    ("decode and print a root", "cert_desk_listing", (25847, 10.38)),
+    ("`cert_desk show` of a root", "show", (35031, 13.38)),
+    ("`cert_tool describe` of a root", "describe", (59723, 33.18)),
+    ("`cert_desk check` of a chain of four", "check", (184959, 72)),
+    ("`cert_tool verify` of a chain of four", "verify", (217422, 112)),
+)
 
 # What the part `messages` decodes: the kind, and the name of a file of tests/asn1/by_openssl.py.
 MESSAGES = (
@@ -356,6 +371,9 @@ def page(bench):
     targets = f"{tasks} missed the target (**no** in the tables): {', '.join(missed)}"
     targets = targets if missed else "all tasks met them"
     whole, alone, chain, shown = (f"{100 - 100 * ratios[row[1]]:.0f} %" for row in OTHERS)
+    released = "\n".join(
+        f"| {task} | {cells(bench.counts[name])} | {cells(before)} | "
+        f"{bench.counts[name][0] / before[0]:.3f} |" for task, name, before in RELEASED)
     messages, times = [], []
     for task, _, name in MESSAGES:
         counts = [bench.counts[f"{name}, {it}"] for it in ("pki", "OpenSSL", "OpenSSL with keys")]
@@ -402,6 +420,15 @@ certificates, and the ratio is between these two. The last pair is of OpenSSL wi
 | Task | {pair} | {pair} | Ratio | {pair} |
 |---|---|---|---|---|---|---|---|
 {messages}
+
+## Compared with version 1.0.0
+
+The first pair of columns is of this version, and the second of 1.0.0.
+[README](README.md#what-changed-since-100) says what changed.
+
+| Task | {pair} | {pair} | Ratio |
+|---|---|---|---|---|---|
+{released}
 
 ## Compared with version 0.10.0, and with itself
 
