@@ -80,6 +80,12 @@ SIZED = [TWO, inside(0, KEPT), inside(1, members(text("a"))), inside(2, TWO), in
          inside(4, sequence())]
 EIGHT = [integer(0), integer(1), text("a"), inside(0, KEPT), PLAIN, explicit(1, text("b")), true(),
          inside(2, sequence(text("c")))]
+LABELS = members(text("a", 0x16), text("b", 0x16))
+PARCEL = [text("c", 0x16), true(), date("20500101000000Z"), inside(1, LABELS),
+          explicit(2, text("d", 0x16))]
+FREIGHT = [explicit(0, integer(1)), text("c", 0x16), tlv(0x81, b"e"), true(), PARCEL[2],
+           inside(2, LABELS), explicit(3, text("f")), inside(4, sequence(text("g", 0x16))),
+           false(0x85), tlv(0x86, b"h")]
 BOX = sequence(integer(9))
 LAST = [integer(1), inside(5, PLAIN), explicit(7, BOX), sequence(inside(5, PLAIN)),
         explicit(6, BOX)]
@@ -142,6 +148,13 @@ VALUES = {
     "forms::Within": ([sequence(*WITHIN), sequence(*WITHIN[:2], tlv(0x80, b"\5"))],
                       [sequence(numbered(3), *WITHIN[1:]), sequence(*WITHIN[:2])]),
     "forms::Eight": ([sequence(*EIGHT), sequence(*EIGHT[:3], PLAIN)], [sequence(*EIGHT[:4])]),
+    "forms::Parcel": ([sequence(*PARCEL), sequence(*PARCEL[::2]),
+                       sequence(*PARCEL[:3], inside(1, members()))],
+                      [sequence(PARCEL[0], false(), PARCEL[2]), sequence(*PARCEL[:3], LABELS),
+                       sequence(*PARCEL[:3], tlv(0xA1, text("b", 0x16), text("a", 0x16)))]),
+    "forms::Freight": ([sequence(*FREIGHT), sequence(*FREIGHT[1:3], PARCEL[2])],
+                       [sequence(*FREIGHT[:2]), sequence(*FREIGHT[1:5], true(0x85)),
+                        sequence(*FREIGHT[:5], inside(2, text("a", 0x16)))]),
     "forms::Longer": ([sequence(*WITHIN, integer(8))], [sequence(*WITHIN)]),
     "forms::Last": ([sequence(*LAST), sequence(*LAST[:2], sequence(), LAST[4])],
                     [sequence(*LAST, NULL), sequence(LAST[0], PLAIN, *LAST[2:])]),

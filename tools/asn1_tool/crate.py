@@ -8,7 +8,7 @@ from .bits import bits_source
 from .choices import Choice
 from .module import Form
 from .numbers import Default, number_source, wrappers_source
-from .records import Record
+from .records import OPTIONAL_FIELDS, Record
 from .syntax import Named, Numbered, Plain, Refused
 
 ROOTS = {
@@ -263,6 +263,9 @@ class Crate:
         if any("crate::specs::Opened::" in text for text in self.files.values()):
             self.files["specs/Lib.antt"] = "pub mod Opened\n"
             self.files["specs/Opened.antt"] = numbers.OPENED
+        if any(".proofs.Optional_fields." in text for text in self.files.values()):
+            self.files["proofs/Lib.antt"] = "pub mod Optional_fields\n"
+            self.files["proofs/Optional_fields.antt"] = OPTIONAL_FIELDS
 
     def table(self):
         """Returns the text of asn1_types.txt: what another module can import from this one."""

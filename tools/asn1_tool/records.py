@@ -23,6 +23,12 @@ class Column:
         return self.optional and self.form.checks_size()
 
     @property
+    def is_optional_set(self):
+        """Returns whether the field is another optional set with an implicit tag."""
+        is_set = self.form.rust.first == {"SET"}
+        return self.optional and self.mode == "implicit" and is_set and not self.is_filled
+
+    @property
     def inner(self):
         return self.default.rust if self.default else self.form.rust
 
@@ -190,8 +196,12 @@ class Record:
         """Yields the path and the text of the proofs of `with_rows` and, if there is a default, of
         `decode_fields`."""
         found = [("Rows/with_rows", LENT)]
-        if not self.by_hand and any(it.default for it in self.columns):
-            found.append(("DecodeFields/decode_fields", READ))
+        if any(it.default for it in self.columns):
+            has_set = any(it.is_optional_set for it in self.columns)
+            if has_set:
+                found.append((DECODE, READ_SETS_BY_HAND if self.by_hand else READ_SETS))
+            elif not self.by_hand:
+                found.append((DECODE, READ))
         for function, text in found:
             path = f"{names.module(self.name)}/{self.rust}{function}"
             yield f"proofs/{path}/Answers.antt", text.format(
@@ -271,6 +281,8 @@ class Record:
                               else "der_core::EncodeRef")
 
 
+DECODE = "DecodeFields/decode_fields"
+
 LENT = """\
 -- The two rows have the fields of the two values.
 use Rattle.std.proofs.Common.{{rules}}
@@ -289,4 +301,27 @@ use Rattle.{crate}.proofs.{path}.Goals as goal
 pub returns : goal.returns
 unfolding default_at
 returns g c = search rules
+"""
+
+# With an optional set besides, the prover also needs the lemma below.
+TWICE = "use Rattle.{crate}.proofs.Optional_fields.{{twice}}\n"
+SETS = READ.replace("use Rattle.{crate}", TWICE + "use Rattle.{crate}")
+READ_SETS = SETS + """
+pub returns-2 : goal.returns-2
+unfolding default_at
+returns-2 g c = search (rules, twice)
+"""
+READ_SETS_BY_HAND = SETS.replace("search rules", "search (rules, twice)")
+
+# The file proofs/Optional_fields.antt: a type of the module can't have this name.
+OPTIONAL_FIELDS = """\
+-- A lemma about optional fields.
+use Rattle.std.specs.Prelude.{◌≡◌, Option, None, Some, refl}
+use Rattle.der_core.specs.Grammar.{plain_option}
+
+-- To map an optional value twice is to map it once.
+pub twice : {A B C : Type 0} (f : B → C) (g : A → B) (o : Option A)
+    → plain_option f (plain_option g o) ≡ plain_option (λ x. f (g x)) o
+twice f g None = refl
+twice f g (Some x) = refl
 """
