@@ -41,6 +41,11 @@ class Form:
         """Returns whether the type is a set whose size is checked in an OPTIONAL field."""
         return bool(self.rust.member) and self.mode == "implicit"
 
+    @property
+    def has_default(self):
+        """Returns whether its Rust type implements `Default`, as members of `SequenceOf` must."""
+        return not self.mode and (bool(self.rust.bits) or self.rust.first == library.BOOL.first)
+
 
 def overlap(one, other):
     """Returns the tags with which both types can begin; None if one can begin with any tag."""
@@ -557,7 +562,7 @@ class Resolved:
                 if low == high and high <= IN_PLACE:
                     text = f"[{member.text()}; {high}]"
                     continue
-                if low == 0 and high <= IN_PLACE:
+                if low == 0 and high <= IN_PLACE and member.has_default:
                     text = f"SequenceOf<{member.text()}, {high}>"
                     uses.add("der_types::SequenceOf")
                     continue

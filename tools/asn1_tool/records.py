@@ -23,10 +23,12 @@ class Column:
         return self.optional and self.form.checks_size()
 
     @property
-    def is_optional_set(self):
-        """Returns whether the field is another optional set with an implicit tag."""
-        is_set = self.form.rust.first == {"SET"}
-        return self.optional and self.mode == "implicit" and is_set and not self.is_filled
+    def maps_twice(self):
+        """Returns whether the field is optional and may be a list of a generic type, for which the
+        prover needs a lemma. The types of `x509_cert_reading` are none."""
+        is_list = self.form.rust.first in ({"SEQUENCE"}, {"SET"})
+        is_of_library = any(it.startswith("x509_cert_reading::") for it in self.form.rust.uses)
+        return self.optional and self.mode == "implicit" and is_list and not is_of_library
 
     @property
     def inner(self):
@@ -197,9 +199,8 @@ class Record:
         `decode_fields`."""
         found = [("Rows/with_rows", LENT)]
         if any(it.default for it in self.columns):
-            has_set = any(it.is_optional_set for it in self.columns)
-            if has_set:
-                found.append((DECODE, READ_SETS_BY_HAND if self.by_hand else READ_SETS))
+            if any(it.maps_twice for it in self.columns):
+                found.append((DECODE, READ_TWICE_BY_HAND if self.by_hand else READ_TWICE))
             elif not self.by_hand:
                 found.append((DECODE, READ))
         for function, text in found:
@@ -303,15 +304,15 @@ unfolding default_at
 returns g c = search rules
 """
 
-# With an optional set besides, the prover also needs the lemma below.
+# With an optional list besides, the prover also needs the lemma below.
 TWICE = "use Rattle.{crate}.proofs.Optional_fields.{{twice}}\n"
-SETS = READ.replace("use Rattle.{crate}", TWICE + "use Rattle.{crate}")
-READ_SETS = SETS + """
+WITH_LISTS = READ.replace("use Rattle.{crate}", TWICE + "use Rattle.{crate}")
+READ_TWICE = WITH_LISTS + """
 pub returns-2 : goal.returns-2
 unfolding default_at
 returns-2 g c = search (rules, twice)
 """
-READ_SETS_BY_HAND = SETS.replace("search rules", "search (rules, twice)")
+READ_TWICE_BY_HAND = WITH_LISTS.replace("search rules", "search (rules, twice)")
 
 # The file proofs/Optional_fields.antt: a type of the module can't have this name.
 OPTIONAL_FIELDS = """\
