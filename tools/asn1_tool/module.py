@@ -386,8 +386,21 @@ class Resolved:
                     "an implicit tag around a CHOICE or ANY isn't ASN.1 (X.680 31.2.9): "
                     "write EXPLICIT",
                 )
+            if mode == "IMPLICIT":
+                self.note_on_any(inner, tag)
             mode = "EXPLICIT"
         return Form(rust, mode.lower(), tag.number, frozenset([tag.number]))
+
+    def note_on_any(self, of, tag):
+        """Reports that --read makes a tag explicit, unless the module says that it is so."""
+        if isinstance(of, Named) and of.name in self.read:
+            is_choice = of.name in self.definitions and self.kind(of.name) == "choice"
+            if not is_choice:
+                self.report.note(
+                    tag.line, f"{of.name} is read as {self.read[of.name]}, so its tag "
+                              f"[{tag.number}] is explicit: if {of.name} is no CHOICE, its "
+                              "encodings aren't accepted",
+                )
 
     def rust(self, of):
         match of:
