@@ -24,12 +24,12 @@ class Column:
 
     @property
     def maps_twice(self):
-        """Returns whether the field is optional and may be a list of a generic type, for which the
-        prover needs a lemma. The lists of `x509_cert_reading` don't need it."""
+        """Returns whether the field is an optional list with a tag, for which the prover may need a
+        lemma. The lists of `x509_cert_reading` don't need it."""
         rust = self.form.rust
         is_list = rust.first in ({"SEQUENCE"}, {"SET"})
         is_of_library = f"x509_cert_reading::{rust.text.partition('<')[0]}" in rust.uses
-        return self.optional and self.mode == "implicit" and is_list and not is_of_library
+        return self.optional and bool(self.mode) and is_list and not is_of_library
 
     @property
     def inner(self):
