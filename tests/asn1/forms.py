@@ -82,7 +82,7 @@ EIGHT = [integer(0), integer(1), text("a"), inside(0, KEPT), PLAIN, explicit(1, 
          inside(2, sequence(text("c")))]
 LABELS = members(text("a", 0x16), text("b", 0x16))
 PARCEL = [text("c", 0x16), true(), date("20500101000000Z"), inside(1, LABELS),
-          explicit(2, text("d", 0x16))]
+          explicit(2, text("d", 0x16)), explicit(3, sequence(OID, OID))]
 FREIGHT = [explicit(0, integer(1)), text("c", 0x16), tlv(0x81, b"e"), true(), PARCEL[2],
            inside(2, LABELS), explicit(3, text("f")), inside(4, sequence(text("g", 0x16))),
            false(0x85), tlv(0x86, b"h")]

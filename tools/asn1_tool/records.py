@@ -23,15 +23,6 @@ class Column:
         return self.optional and self.form.checks_size()
 
     @property
-    def maps_twice(self):
-        """Returns whether the field is an optional list with a tag, for which the prover may need a
-        lemma. The lists of `x509_cert_reading` don't need it."""
-        rust = self.form.rust
-        is_list = rust.first in ({"SEQUENCE"}, {"SET"})
-        is_of_library = f"x509_cert_reading::{rust.text.partition('<')[0]}" in rust.uses
-        return self.optional and bool(self.mode) and is_list and not is_of_library
-
-    @property
     def inner(self):
         return self.default.rust if self.default else self.form.rust
 
@@ -200,7 +191,7 @@ class Record:
         `decode_fields`."""
         found = [("Rows/with_rows", LENT)]
         if any(it.default for it in self.columns):
-            if any(it.maps_twice for it in self.columns):
+            if any(it.optional and it.mode for it in self.columns):
                 found.append((DECODE, READ_TWICE_BY_HAND if self.by_hand else READ_TWICE))
             elif not self.by_hand:
                 found.append((DECODE, READ))
@@ -305,15 +296,15 @@ unfolding default_at
 returns g c = search rules
 """
 
-# With an optional list besides, the prover also needs the lemma below.
+# With an optional field that has a tag, the prover also needs the lemma below.
 TWICE = "use Rattle.{crate}.proofs.Optional_fields.{{twice}}\n"
-WITH_LISTS = READ.replace("use Rattle.{crate}", TWICE + "use Rattle.{crate}")
-READ_TWICE = WITH_LISTS + """
+TAGGED = READ.replace("use Rattle.{crate}", TWICE + "use Rattle.{crate}")
+READ_TWICE = TAGGED + """
 pub returns-2 : goal.returns-2
 unfolding default_at
 returns-2 g c = search (rules, twice)
 """
-READ_TWICE_BY_HAND = WITH_LISTS.replace("search rules", "search (rules, twice)")
+READ_TWICE_BY_HAND = TAGGED.replace("search rules", "search (rules, twice)")
 
 # The file proofs/Optional_fields.antt: a type of the module can't have this name.
 OPTIONAL_FIELDS = """\
