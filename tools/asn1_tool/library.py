@@ -133,8 +133,9 @@ def row(text, path, first, *marks):
         for tag in first.split("+")
     )
     found = set() if path == "-" else set(re.findall(r"[A-Z]\w*", text)) - {"Vec"}
+    paths = {it: "der_types" if it == "FlagSet" else path for it in found}
     return RustType(
-        text.replace("~", " "), frozenset(f"{path}::{it}" for it in found), tags,
+        text.replace("~", " "), frozenset(f"{of}::{it}" for it, of in paths.items()), tags,
         is_choice="choice" in marks, is_copy="copy" in marks, is_as_read="no-AsRead" not in marks,
         default=next((mark[8:] for mark in marks if mark.startswith("default=")), None),
         unchecked_size="SIZE (1..MAX)" if "size" in marks else None, may_be_empty="empty" in marks,
