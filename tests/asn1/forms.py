@@ -31,7 +31,7 @@ from positions import MAIN
 LIBRARIES = ("der_types_more", "der_types", "der_core")
 CRATES = {
     "forms": f"{' '.join(LIBRARIES)} bitflags",
-    "automatic": "forms der_core",
+    "automatic": "forms der_types_more der_core",
 }
 
 
@@ -76,6 +76,9 @@ DEFAULTS = [explicit(0, integer(1)), integer(5), true(0x81), true(), false(0x82)
 ENCODED = [explicit(0, integer(0)), integer(0), false(0x81), false(), true(0x82), tlv(0x83, b"\1")]
 NUMBERS = [tlv(0x80, b"\x15"), tlv(0x81, b"\xfa"), tlv(0x82, b"\1")]
 USUAL = [tlv(0x80, b"\x14"), tlv(0x81, b"\xfb"), tlv(0x82, b"\1\0\1")]
+RANGES = [integer(2**128 - 1), integer(-(2**127)), integer(32767), integer(-(2**31)),
+          integer(2**63 - 1)]
+GIVEN = [tlv(0x80, b"\0"), tlv(0x81, b"\1"), tlv(0x82, b"\1")]
 SIZED = [TWO, inside(0, KEPT), inside(1, members(text("a"))), inside(2, TWO), inside(3, TWO),
          inside(4, sequence())]
 EIGHT = [integer(0), integer(1), text("a"), inside(0, KEPT), PLAIN, explicit(1, text("b")), true(),
@@ -133,6 +136,11 @@ VALUES = {
                         [sequence(it) for it in ENCODED]),
     "forms::Numbers": ([sequence(), sequence(*NUMBERS), sequence(NUMBERS[1])],
                        [sequence(it) for it in USUAL]),
+    "forms::Ranges": ([sequence(*RANGES), sequence(*RANGES, *GIVEN)],
+                      [sequence(integer(2**128), *RANGES[1:]),
+                       sequence(*RANGES[:2], integer(-32769), *RANGES[3:]),
+                       sequence(*RANGES[:4], integer(2**63)),
+                       sequence(*RANGES, tlv(0x82, b"\xff"))]),
     "forms::Sets": ([sequence(members(*MEMBERS), sequence()),
                      sequence(members(), inside(0, members(*IDS)), sequence(TWO, sequence()))],
                     [sequence(tlv(0x31, *sorted(MEMBERS, reverse=True)), sequence())]),
@@ -170,6 +178,11 @@ VALUES = {
     # The fields of the root are numbered first (X.680 25.7).
     "automatic::Extended": ([sequence(*EXTENDED)], [sequence(*sorted(EXTENDED))]),
     "automatic::Copied": ([sequence(*sorted(EXTENDED))], [sequence(*EXTENDED)]),
+    "automatic::Repeated": ([sequence(inside(0, members(integer(7), integer(7)))),
+                             sequence(inside(0, members()), true(0x81),
+                                      inside(2, members(*[tlv(0x80, b"\1")] * 2)))],
+                            [sequence(tlv(0xA0, integer(8), integer(7))),
+                             sequence(inside(0, members()), false(0x81))]),
     "automatic::Given": ([sequence(tlv(0x83, b"\1"), true())], [sequence(integer(1), true())]),
 }
 
@@ -187,8 +200,8 @@ def write(folder, names):
     crates, here = folder / "crates", str(folder / "crates")
     with contextlib.redirect_stdout(io.StringIO()):
         is_refused = write_crate([str(HERE / "forms.asn1"), f"{here}/forms"])
-        is_refused |= write_crate([str(HERE / "automatic.asn1"), f"{here}/automatic", "--with",
-                                   f"{here}/forms"])
+        is_refused |= write_crate([str(HERE / "automatic.asn1"), f"{here}/automatic",
+                                   "--equal-members", "--with", f"{here}/forms"])
     if is_refused:
         sys.exit("tools/asn1 refuses a module")
     subprocess.run([TOP / "tools/take.py", *LIBRARIES, folder], check=True, capture_output=True)

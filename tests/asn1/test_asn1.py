@@ -68,7 +68,7 @@ def write_forms(folder):
     """Writes the crates of the made-up modules."""
     run(HERE / "loans.asn1", folder / "loans")
     run(HERE / "forms.asn1", folder / "forms")
-    run(HERE / "automatic.asn1", folder / "automatic", "--with", "forms")
+    run(HERE / "automatic.asn1", folder / "automatic", "--equal-members", "--with", "forms")
 
 
 def cases():
@@ -178,9 +178,9 @@ class Test(unittest.TestCase):
         """The tool prints the line for crates.txt."""
         _, lines, _ = run(HERE / "forms.asn1", self.folder / "forms")
         self.assertEqual(lines[-1], "crates.txt: forms: der_types_more der_types der_core bitflags")
-        words = ["--with", "forms"]
+        words = ["--equal-members", "--with", "forms"]
         _, lines, _ = run(HERE / "automatic.asn1", self.folder / "automatic", *words)
-        self.assertEqual(lines[-1], "crates.txt: automatic: forms der_core")
+        self.assertEqual(lines[-1], "crates.txt: automatic: forms der_types_more der_core")
 
 
 if __name__ == "__main__":
