@@ -258,7 +258,7 @@ class Crate:
             if found:
                 exports.append(exported(module, sorted(found, key=layout.order)))
         text = [LIB.format(module=self.types.module.name), "\n".join(modules)]
-        text += ["", "\n".join(exports)] if exports else []
+        text += ["", "\n".join(sorted(exports, key=layout.order))] if exports else []
         self.files["src/lib.rt"] = "\n".join(text) + "\n"
         if any("crate::specs::Opened::" in text for text in self.files.values()):
             self.files["specs/Lib.antt"] = "pub mod Opened\n"

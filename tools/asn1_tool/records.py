@@ -1,5 +1,6 @@
 """The source of a SEQUENCE: a struct, its row of fields, and the impls that code it."""
 
+import collections
 import dataclasses
 
 from . import layout, names
@@ -126,7 +127,13 @@ class Record:
         self.rust = names.camel(name)
         self.columns = [self.column(field) for field in self.definition.type.fields]
         self.check()
-        self.by_hand = any(it.word is None for it in self.columns)
+        # The optional fields whose tag is taken off, by `implicit_of` or `explicit_of`.
+        self.untagged = [it for it in self.columns
+                         if it.optional and it.mode and not it.is_filled]
+        self.has_default = any(it.default for it in self.columns)
+        # The prover finds no proof of `decode_fields` by itself.
+        self.is_large = len(self.untagged) + self.has_default >= 4
+        self.by_hand = self.is_large or any(it.word is None for it in self.columns)
         self.uses = {
             "der_core::DecodeFields", "der_core::Error", "der_core::Reader", "std::alloc::Global",
             *(f"der_core::describing::{it}" for it in
@@ -187,20 +194,34 @@ class Record:
         return "\n\n".join([f"//! {self.rust}.", "\n".join(ghosts), uses, *parts]) + "\n"
 
     def answers(self):
-        """Yields the path and the text of the proofs of `with_rows` and, if there is a default, of
+        """Yields the path and the text of the proofs of `with_rows` and, if it needs one, of
         `decode_fields`."""
-        found = [("Rows/with_rows", LENT)]
-        if any(it.default for it in self.columns):
-            if any(it.optional and it.mode for it in self.columns):
-                found.append((DECODE, READ_TWICE_BY_HAND if self.by_hand else READ_TWICE))
-            elif not self.by_hand:
-                found.append((DECODE, READ))
+        found = [("Rows/with_rows", LENT), ("DecodeFields/decode_fields", self.read_answer())]
         for function, text in found:
             path = f"{names.module(self.name)}/{self.rust}{function}"
-            yield f"proofs/{path}/Answers.antt", text.format(
-                crate=self.crate.name, path=path.replace("/", "."),
-                call="take_lent" if self.by_hand else "lend",
-            )
+            if text:
+                yield f"proofs/{path}/Answers.antt", text.format(
+                    crate=self.crate.name, path=path.replace("/", "."), clauses=self.clauses(),
+                    first=self.columns[0].label, call="take_lent" if self.by_hand else "lend",
+                )
+
+    def read_answer(self):
+        """Returns the proof of `decode_fields`, or nothing if the prover finds it."""
+        if self.is_large:
+            return READ_LARGE
+        if self.has_default and any(it.optional and it.mode for it in self.columns):
+            return READ_TWICE_BY_HAND if self.by_hand else READ_TWICE
+        return READ if self.has_default and not self.by_hand else None
+
+    def clauses(self):
+        """Returns the clauses of the calls that take tags off, as a proof names them."""
+        calls = collections.Counter()
+        found = []
+        for column in self.untagged:
+            calls[column.mode] += 1
+            number = f"-{calls[column.mode]}" * (calls[column.mode] > 1)
+            found.append(f"c.{column.mode}_of{number}.ensures")
+        return ", ".join(found)
 
     def struct(self):
         notes = ["Other fields are rejected."] if self.definition.type.extensible else []
@@ -305,6 +326,21 @@ unfolding default_at
 returns-2 g c = search (rules, twice)
 """
 READ_TWICE_BY_HAND = TAGGED.replace("search rules", "search (rules, twice)")
+READ_LARGE = """\
+-- The fields are those of the row, without the tags of optional fields.
+use Rattle.der_core.specs.Grammar.{{default_at}}
+use Rattle.{crate}.proofs.Optional_fields.{{twice}}
+use Rattle.{crate}.proofs.{path}.Goals as goal
+
+pub returns : goal.returns
+unfolding default_at
+returns g c = (
+  simp ({clauses}, twice) c.in_ok-{first}.ensures.0,
+  c.in_ok-{first}.ensures.1,
+  c.in_ok-{first}.ensures.2,
+  c.in_ok-{first}.ensures.3,
+)
+"""
 
 # The file proofs/Optional_fields.antt: a type of the module can't have this name.
 OPTIONAL_FIELDS = """\
