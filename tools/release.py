@@ -31,7 +31,7 @@ with only the files PROVED and SUMS. It clones the commit, runs `rt ci --anew` f
 their dependencies (default: all), without mutants, and compares each library and program, the
 bindings and the licences. The bindings depend on gcc, binutils and Python of this machine. With
 --kept it trusts what this machine proved before, and can be interrupted and resumed. The clone
-takes some 10 GB in TMPDIR.
+takes some 15 GB in TMPDIR.
 
 prove runs `rt ci` for these crates and their dependencies in a copy of the crates, with all
 processors, and installs the libraries here. It can be interrupted and resumed, because the kit
