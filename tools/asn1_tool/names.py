@@ -15,8 +15,8 @@ TAKEN = set(
     EncodeFields EncodeRef Eq Err Error Explicit FieldRow Fields FieldsOrd FieldsView FirstTag Flag
     FlagSet Flags GeneralizedTime Global Implicit ImplicitRef InRange InRangeValue Int Length Member
     NamedBits None Null Numbered ObjectIdentifier OctetString Ok Opened Option Ordered Ordering
-    PartialEq Reader Rest RestRef RestRow RestRowRef Result Row RowUser Rows Self SequenceOf Shaped
-    ShapedValue Some StrictSetOf String Tag Uint UtcTime Vec WithDefault Writer""".split()
+    PartialEq R Reader Rest RestRef RestRow RestRowRef Result Row RowUser Rows Self SequenceOf
+    Shaped ShapedValue Some StrictSetOf String Tag Uint UtcTime Vec WithDefault Writer""".split()
 )
 # Modules of the crate that contain no types of the ASN.1 module.
 MODULES = {"aliases", "identifiers", "defaults", "laws", "lib", "main"}

@@ -130,9 +130,13 @@ class Record:
         # The optional fields whose tag is taken off, by `implicit_of` or `explicit_of`.
         self.untagged = [it for it in self.columns
                          if it.optional and it.mode and not it.is_filled]
-        self.has_default = any(it.default for it in self.columns)
-        # The prover finds no proof of `decode_fields` by itself.
-        self.is_large = len(self.untagged) + self.has_default >= 4
+        defaults = [it for it in self.columns if it.default]
+        self.has_default = bool(defaults)
+        # The prover finds no proof of `decode_fields` by itself. The proof that is written then
+        # doesn't fit a default of a signed number.
+        is_signed = any((it.default.rust.bits or 0) < 0 for it in defaults)
+        count = len(self.untagged) + len(defaults) if self.untagged else 0
+        self.is_large = count >= 4 and not is_signed
         self.by_hand = self.is_large or any(it.word is None for it in self.columns)
         self.uses = {
             "der_core::DecodeFields", "der_core::Error", "der_core::Reader", "std::alloc::Global",
