@@ -132,11 +132,11 @@ class Record:
                          if it.optional and it.mode and not it.is_filled]
         defaults = [it for it in self.columns if it.default]
         self.has_default = bool(defaults)
-        # The prover finds no proof of `decode_fields` by itself. The proof that is written then
-        # doesn't fit a default of a signed number.
+        # With so many of both, the prover finds no proof of `decode_fields` by itself. The proof
+        # that is written then needs a tag to take off, and doesn't fit a signed default.
         is_signed = any((it.default.rust.bits or 0) < 0 for it in defaults)
-        count = len(self.untagged) + len(defaults) if self.untagged else 0
-        self.is_large = count >= 4 and not is_signed
+        is_many = len(self.untagged) + len(defaults) >= 4
+        self.is_large = is_many and bool(self.untagged) and not is_signed
         self.by_hand = self.is_large or any(it.word is None for it in self.columns)
         self.uses = {
             "der_core::DecodeFields", "der_core::Error", "der_core::Reader", "std::alloc::Global",
@@ -298,8 +298,6 @@ class Record:
                 self.uses.add("der_core::ImplicitRef" if it.mode == "implicit"
                               else "der_core::EncodeRef")
 
-
-DECODE = "DecodeFields/decode_fields"
 
 LENT = """\
 -- The two rows have the fields of the two values.
